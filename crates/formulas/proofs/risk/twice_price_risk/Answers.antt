@@ -23,18 +23,12 @@ still : (c : Start) → ℤ
 still c = total_of c.args.totals.now 1 +ℤ total_of c.args.totals.now 2
 
 paired_is : (c : After-both) → c.both.result ≡ paired c.before.before
+unfolding paired
 paired_is c = c.both.ensures.0
     ∙ ap (λ (p : ℕ). total_of c.args.totals.now c.args.active +ℤ total_of c.args.totals.now p) c.pair_of-paired.ensures
 
-unfolding paired
-
-unfolding still
-
-unfolding still
-
-unfolding still paired
-
 within : (c : After-both-2) → nat_abs (paired (goal.at.minus-requires c).Start -ℤ still (goal.at.minus-requires c).Start) ≤ 4 * most_risk
+unfolding still
 within c =
     let a : nat_abs (paired (goal.at.minus-requires c).Start) ≤ 2 * most_risk = subst (λ (z : ℤ). nat_abs z ≤ 2 * most_risk) (paired_is (goal.at.minus-requires c).After-both) c.both.ensures.1 in
     let b : nat_abs (still (goal.at.minus-requires c).Start) ≤ 2 * most_risk = subst (λ (z : ℤ). nat_abs z ≤ 2 * most_risk) c.both-2.ensures.0 c.both-2.ensures.1 in
@@ -42,12 +36,14 @@ within c =
     omega arith
 
 pub minus-requires : goal.minus-requires
+unfolding still
 minus-requires c =
     let h = within c in
     op_fits ◌-ℤ◌ c.both.result c.both-2.result (paired (goal.at.minus-requires c).Start) (still (goal.at.minus-requires c).Start) c.both.type_inv c.both-2.type_inv (paired_is (goal.at.minus-requires c).After-both)
     c.both-2.ensures.0 (omega arith)
 
 pub returns : goal.returns
+unfolding still paired
 returns c =
     let e = op_is ◌-ℤ◌ c.both.result c.both-2.result (paired (goal.at.returns c).Start) (still (goal.at.returns c).Start) c.both.type_inv c.both-2.type_inv (paired_is (goal.at.returns c).After-both)
     c.both-2.ensures.0

@@ -91,13 +91,8 @@ module _ (s : Start) (us : List ℤ)
       )
 
 -- a row in the margin currency
-abbrev own_row : Else-c-ne0 → Record
-own_row c =
-    let start = c.before.before.before in
-    start.args.row.now
-
-own_is : (c : Else-c-ne0) → eqb (currency (own_row c)) 0 ≡ true
-own_is c = eq-eqb (currency (own_row c)) 0 (sym c.currency-c.ensures.0 ∙ c.if-c-ne0.false)
+own_is : (c : Else-c-ne0) → eqb (currency c.args.row.now) 0 ≡ true
+own_is c = eq-eqb (currency c.args.row.now) 0 (sym c.currency-c.ensures.0 ∙ c.if-c-ne0.false)
 
 -- lots × value, as its calls have it
 module _ (c : After-per_tick-each) where
@@ -124,6 +119,7 @@ returns-then-c-ne0 c =
     let f = c.factors_of.result in
     let unit = c.args.unit in
     let small = (c.requires.1.1.0.each 0 (omega arith)).currency_within in
+    let both =
     in-totals (goal.at.returns-then-c-ne0 c).Start c.add_converted.new.totals
     (λ held is.
     same_added scenario_count (converted_products f.raised f.lowered unit row) (products held unit row) c.args.totals.now c.add_converted.new.totals
@@ -132,15 +128,18 @@ returns-then-c-ne0 c =
     (lowered_is (goal.at.returns-then-c-ne0 c).After-factors_of held is small)
     ∙ ap (λ (t : Bool). half_away_to (by-currency held row (k + 1) t) unit) (sym (other (goal.at.returns-then-c-ne0 c).After-factors_of)))
     c.add_converted.ensures)
+    in record { added = both.0; room = both.1 }
 
 pub returns-then-unit-ne1 : goal.returns-then-unit-ne1
 returns-then-unit-ne1 c =
     let row = c.args.row.now in
     let unit = c.args.unit in
+    let both =
     in-totals (goal.at.returns-then-unit-ne1 c).Start c.add_own.new.totals
     (λ held is.
     same_added scenario_count (own_products unit row) (products held unit row) c.args.totals.now c.add_own.new.totals
     (λ k. ap (λ (t : Bool). half_away_to (by-currency held row (k + 1) t) unit) (sym (own_is (goal.at.returns-then-unit-ne1 c).Else-c-ne0))) c.add_own.ensures)
+    in record { added = both.0; room = both.1 }
 
 pub add_raised-requires : goal.add_raised-requires
 add_raised-requires c =

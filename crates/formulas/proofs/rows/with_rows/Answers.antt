@@ -55,11 +55,9 @@ returns c =
     let with-nets : List Delta → Position = λ nets. record { totals = record { 0 = ts }; nets = nets; shorts = p.shorts + n } in
     let same = sym c.deltas_from.ensures in
     let added : (held : List Record) → RatesOf held c.args.rates → WithRows held unit days p rows (with-nets c.deltas_from.result) =
-    λ held is. subst (λ (nets : List Delta). WithRows held unit days p rows (with-nets nets)) same (with_lent held unit rows days p ts ns n (its held is)) in (
-      added,
-      (
-        λ held prompts earlier is known of. joined held unit prompts earlier rows days p (with-nets c.deltas_from.result) known of (added held is),
-        subst (λ (nets : List Delta). Bounded most_rows (with-nets nets)) same
-            (with_most rated.rates unit rows days p ts ns n (its rated.rates rated.held) c.requires.1.1.0 c.requires.1.1.1.1 by.ensures.most),
-      ),
-    )
+    λ held is. subst (λ (nets : List Delta). WithRows held unit days p rows (with-nets nets)) same (with_lent held unit rows days p ts ns n (its held is)) in record {
+      added = added;
+      more = λ held prompts earlier is known of. joined held unit prompts earlier rows days p (with-nets c.deltas_from.result) known of (added held is);
+      most = subst (λ (nets : List Delta). Bounded most_rows (with-nets nets)) same
+          (with_most rated.rates unit rows days p ts ns n (its rated.rates rated.held) c.requires.1.1.0 c.requires.1.1.1.1 by.ensures.most);
+    }

@@ -34,13 +34,13 @@ with_rows-gone-requires c =
 pub totals_without-requires : goal.totals_without-requires
 totals_without-requires c = (
   c.requires.1.1.1.1.0.totals_most,
-  c.with_rows-gone.ensures.more.1.totals_most,
+  c.with_rows-gone.ensures.most.totals_most,
 )
 
 pub nets_without-requires : goal.nets_without-requires
 nets_without-requires c = (
   c.requires.1.1.1.1.0.nets_most,
-  c.with_rows-gone.ensures.more.1.nets_most,
+  c.with_rows-gone.ensures.most.nets_most,
 )
 
 pub overflow_sub-result : goal.overflow_sub-result

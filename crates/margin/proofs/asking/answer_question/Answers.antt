@@ -38,13 +38,13 @@ returns-then-not-is_asked c =
     let q = question_of c.args.paid c.args.question in
     refused_with (NoSuchQuestion c.record_total.result) _ (numbers_for a q) c.args.out.now
     (not-asked a q (length c.args.out.now)
-    (answers_of a c.args.paid c.args.question ∙ asked (goal.at.returns-then-not-is_asked c).After-is_asked ∙ not-true c.is_asked.result c.if-not-is_asked.true)
+    (answers_of a c.args.paid c.args.question ∙ asked (goal.at.returns-then-not-is_asked c).After-is_asked ∙ c.if-not-is_asked.true)
     ∙ ap NoSuchQuestion (sym (c.record_total.ensures ∙ c.requires.places.all))) (λ e. omega arith)
 
 pub answer_contract_book-requires : goal.answer_contract_book-requires
 answer_contract_book-requires c =
     let q = c.args.question in
-    let is = asked (goal.at.answer_contract_book-requires c).After-is_asked ∙ not-false c.is_asked.result c.if-not-is_asked.false in
+    let is = asked (goal.at.answer_contract_book-requires c).After-is_asked ∙ c.if-not-is_asked.false in
     let contract = and_right (not c.args.paid) (not (eqb q table_question)) c.if-paid-question.true in (
       c.requires,
       (
@@ -64,7 +64,7 @@ returns-then-paid-question c =
 
 pub asking_over-asking-requires : goal.asking_over-asking-requires
 asking_over-asking-requires c =
-    (c.requires, asked (goal.at.asking_over-asking-requires c).After-is_asked ∙ not-false c.is_asked.result c.if-not-is_asked.false)
+    (c.requires, asked (goal.at.asking_over-asking-requires c).After-is_asked ∙ c.if-not-is_asked.false)
 
 pub answer_asking-requires : goal.answer_asking-requires
 answer_asking-requires c = c.asking_over-asking.ensures.accepted
@@ -74,7 +74,7 @@ returns c =
     c.answer_asking.ensures (account_of c.args.morning.now c.args.noon.now) c.args.question
     (record {
       lawful = c.requires.lawful;
-      asked_is = asked (goal.at.returns c).After-is_asked ∙ not-false c.is_asked.result c.if-not-is_asked.false;
+      asked_is = asked (goal.at.returns c).After-is_asked ∙ c.if-not-is_asked.false;
       records_are = c.record_total-2.ensures ∙ c.requires.places.all;
       asks = c.asking_over-asking.ensures;
     })

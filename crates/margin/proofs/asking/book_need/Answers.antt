@@ -26,13 +26,13 @@ pub returns-then-not-is_asked : goal.returns-then-not-is_asked
 returns-then-not-is_asked c =
     let a = account_of c.args.morning.now c.args.noon.now in (
       sym (ap (λ (t : Bool). cond t (length (numbers_for a (Book c.args.question))) 0)
-          (asked (goal.at.returns-then-not-is_asked c).After-is_asked ∙ not-true c.is_asked.result c.if-not-is_asked.true)),
+          (asked (goal.at.returns-then-not-is_asked c).After-is_asked ∙ c.if-not-is_asked.true)),
       omega arith,
     )
 
 pub sizes_over-sizes-requires : goal.sizes_over-sizes-requires
 sizes_over-sizes-requires c =
-    (c.requires, asked (goal.at.sizes_over-sizes-requires c).After-is_asked ∙ not-false c.is_asked.result c.if-not-is_asked.false)
+    (c.requires, asked (goal.at.sizes_over-sizes-requires c).After-is_asked ∙ c.if-not-is_asked.false)
 
 pub overflow_mul-result : goal.overflow_mul-result
 overflow_mul-result c = omega (arith, c.sizes_over-sizes.ensures.prompts_few)
@@ -51,6 +51,6 @@ returns c =
     let a = account_of c.args.morning.now c.args.noon.now in
     let r = c.sizes_over-sizes in (
       sym (ap (λ (t : Bool). cond t (length (numbers_for a (Book c.args.question))) 0)
-          (asked (goal.at.returns c).After-is_asked ∙ not-false c.is_asked.result c.if-not-is_asked.false) ∙ r.ensures.book_has),
+          (asked (goal.at.returns c).After-is_asked ∙ c.if-not-is_asked.false) ∙ r.ensures.book_has),
       omega (arith, r.ensures.prompts_few, r.ensures.spreads_few),
     )

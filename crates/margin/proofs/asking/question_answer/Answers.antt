@@ -33,12 +33,12 @@ returns-then-not-is_asked c =
     λ whole t.
     refused_with (NoSuchQuestion c.args.positions.records) _ (numbers_for whole q) c.args.out.now
     (not-asked whole q (length c.args.out.now) (answers_of whole c.args.paid k ∙ answered_beside a whole t.beside k ∙ asked (goal.at.returns-then-not-is_asked c).After-is_asked
-    ∙ not-true c.is_asked.result c.if-not-is_asked.true)
+    ∙ c.if-not-is_asked.true)
     ∙ ap NoSuchQuestion (sym t.positions.records_are)) (λ e. omega arith)
 
 pub asking_from-asking-requires : goal.asking_from-asking-requires
 asking_from-asking-requires c =
-    (c.requires.0, (c.requires.1, asked (goal.at.asking_from-asking-requires c).After-is_asked ∙ not-false c.is_asked.result c.if-not-is_asked.false))
+    (c.requires.0, (c.requires.1, asked (goal.at.asking_from-asking-requires c).After-is_asked ∙ c.if-not-is_asked.false))
 
 pub answer_asking-requires : goal.answer_asking-requires
 answer_asking-requires c =
@@ -53,7 +53,7 @@ returns c =
     (record {
       lawful = t.beside.lawful;
       asked_is = answered_beside (account_of c.args.morning.now c.args.noon.now) whole t.beside k
-          ∙ asked (goal.at.returns c).After-is_asked ∙ not-false c.is_asked.result c.if-not-is_asked.false;
+          ∙ asked (goal.at.returns c).After-is_asked ∙ c.if-not-is_asked.false;
       records_are = t.positions.records_are;
       asks = c.asking_from-asking.ensures whole t;
     })

@@ -36,13 +36,13 @@ pub returns-then-not-is_asked : goal.returns-then-not-is_asked
 returns-then-not-is_asked c =
     let a = account_of c.args.morning.now c.args.noon.now in (
       sym (ap (λ (t : Bool). cond t (length (numbers_for a (Uses c.args.question))) 0)
-          (asked (goal.at.returns-then-not-is_asked c).After-is_asked ∙ not-true c.is_asked.result c.if-not-is_asked.true)),
+          (asked (goal.at.returns-then-not-is_asked c).After-is_asked ∙ c.if-not-is_asked.true)),
       omega arith,
     )
 
 pub sizes_over-sizes-requires : goal.sizes_over-sizes-requires
 sizes_over-sizes-requires c =
-    (c.requires, asked (goal.at.sizes_over-sizes-requires c).After-is_asked ∙ not-false c.is_asked.result c.if-not-is_asked.false)
+    (c.requires, asked (goal.at.sizes_over-sizes-requires c).After-is_asked ∙ c.if-not-is_asked.false)
 
 pub overflow_mul-result : goal.overflow_mul-result
 overflow_mul-result c = omega (arith, c.sizes_over-sizes.ensures.prompts_few)
@@ -55,6 +55,6 @@ returns c =
     let a = account_of c.args.morning.now c.args.noon.now in
     let r = c.sizes_over-sizes in (
       sym (ap (λ (t : Bool). cond t (length (numbers_for a (Uses c.args.question))) 0)
-          (asked (goal.at.returns c).After-is_asked ∙ not-false c.is_asked.result c.if-not-is_asked.false) ∙ r.ensures.uses_have),
+          (asked (goal.at.returns c).After-is_asked ∙ c.if-not-is_asked.false) ∙ r.ensures.uses_have),
       few (goal.at.returns c).After-sizes_over-sizes,
     )

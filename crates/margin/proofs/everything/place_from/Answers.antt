@@ -1,5 +1,3 @@
--- A contract after the other, by what its rows come to, for every account that the positions tell of.
--- Assumes nothing.
 use mathlib.Core.Path.{◌≡◌, sym, ap, ◌∙◌}
 use mathlib.Core.Bool.{Bool, true, false}
 use mathlib.Core.List.{List, []}

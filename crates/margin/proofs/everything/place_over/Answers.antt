@@ -1,5 +1,3 @@
--- A contract after the other: its book and uses in their places, and its line in its own; and the total behind them.
--- Assumes nothing.
 use mathlib.Core.Path.{◌≡◌, sym, ◌∙◌}
 use Prim.Native.Nat.{◌-◌, ◌≤◌}
 use native.Mathlib.Omega.{arith}

@@ -27,10 +27,10 @@ room s whole t = omega (arith, figures-length whole, s.requires.1.1, ap length t
 
 -- the contracts of such an account are in their places
 tabled : (c : After-contract_total) →
-    let ends = c.place_from.last.1.1.1.1 in
+    let ends = c.place_from.new in
     (whole : List Record) → Told c.before.before.before.before.before.before.before.before.before.before.before.before.before.before.before.before.before whole
-    → TabledBy c.part.result.now c.contract_total.result c.args.positions.records ends.0 ends.1.1.1.0
-    ends.1.1.1.1.0 ends.1.1.1.1.1.0 ends.1.1.1.1.1.1.0 ends.1.1.1.1.1.1.1.0 whole
+    → TabledBy c.part.result.now c.contract_total.result c.args.positions.records ends.figures ends.tiers
+    ends.nets ends.units ends.prices ends.sizes whole
 tabled c whole t =
     let bytes = c.part.result.now in
     walked_tabled (room c.before.before.before.before.before.before.before.before.before.before.before.before.before.before.before.before.before whole t) c.figures-1.given (c.place_from.ensures whole t) t.beside.lawful

@@ -19,9 +19,9 @@ room s = omega (arith, figures-length (account_of s.args.morning.now s.args.noon
 
 -- the account's contracts are in their places
 tabled : (c : After-record_total) →
-    let ends = c.place_over.last.1.1.1 in
-    TabledBy c.part.result.now c.contract_total.result c.record_total.result ends.0 ends.1.1.1.0
-    ends.1.1.1.1.0 ends.1.1.1.1.1.0 ends.1.1.1.1.1.1.0 ends.1.1.1.1.1.1.1.0
+    let ends = c.place_over.new in
+    TabledBy c.part.result.now c.contract_total.result c.record_total.result ends.figures ends.tiers
+    ends.nets ends.units ends.prices ends.sizes
     (account_of c.args.morning.now c.args.noon.now)
 tabled c =
     walked_tabled (room c.before.before.before.before.before.before.before.before.before.before.before.before.before.before.before.before.before.before) c.figures-1.given c.place_over.ensures c.requires.0.lawful

@@ -38,7 +38,7 @@ Is s whole =
     s.args.units.now s.args.prices.now s.args.sizes.now whole
 
 abbrev tiers : After-intercontract_table-table → Prompts
-tiers c = prompts_in (at-start c).args.count (at-start c).args.tiers.now (at-start c).args.nets.now
+tiers c = prompts_in c.args.count c.args.tiers.now c.args.nets.now
 
 module _ (t : After-intercontract_table-table) (whole : List Record) (is : Is t.before.before.before.before whole) where
   tiered : TiersFrom (length (contracts_of whole)) (lines_for whole) (tiers t)
@@ -63,14 +63,13 @@ accepted-one t = let x = t.requires.1 in accepted t x.whole x.is
 
 -- the numbers that they formed
 formed : (c : After-put_book) →
-    let ends = c.put_book.new.1.1.1.1 in
-    (whole : List Record) → Is c.before.before.before.before.before.before.before.before.before → CreditedIn whole c.args.count c.args.entries.now c.args.units.now c.args.prices.now
-    c.args.sizes.now ends.0 ends.1.0 c.args.figures.now
+    (whole : List Record) → Is c.before.before.before.before.before.before.before.before.before whole → CreditedIn whole c.args.count c.args.entries.now c.args.units.now c.args.prices.now
+    c.args.sizes.now c.put_book.new.first c.put_book.new.second c.args.figures.now
 formed c whole is =
-    let ends = c.put_book.new.1.1.1.1 in
+    let ends = c.put_book.new in
     tabled_formed whole is.lawful c.args.figures.now c.args.tiers.now c.args.nets.now c.args.units.now
     c.args.prices.now c.args.sizes.now is.tabled _ is.count_is _ is.part c.intercontract_table-table.result
-    c.intercontract_table-table.ensures ends.0 ends.1.0 ends.1.1.0 ends.1.1.1.0 c.put_book.ensures
+    c.intercontract_table-table.ensures ends.first ends.second ends.used ends.unused c.put_book.ensures
 
 pub lend_unspread-requires : goal.lend_unspread-requires
 lend_unspread-requires c =

@@ -29,16 +29,16 @@ returns-then-not-is_asked c =
     let a = c.args in
     ap (λ (n : ℕ). Refused (NoSuchQuestion n)) (c.record_total.ensures ∙ c.requires.places.all)
     ∙ list_not-asked (account_of a.morning.now a.noon.now) a.question a.sent a.numbers.now a.uses.now
-    (asked (goal.at.returns-then-not-is_asked c).After-is_asked ∙ not-true c.is_asked.result c.if-not-is_asked.true)
+    (asked (goal.at.returns-then-not-is_asked c).After-is_asked ∙ c.if-not-is_asked.true)
 
 pub asking_over-asking-requires : goal.asking_over-asking-requires
 asking_over-asking-requires c =
-    (c.requires, asked (goal.at.asking_over-asking-requires c).After-is_asked ∙ not-false c.is_asked.result c.if-not-is_asked.false)
+    (c.requires, asked (goal.at.asking_over-asking-requires c).After-is_asked ∙ c.if-not-is_asked.false)
 
 pub returns : goal.returns
 returns c =
     let a = c.args in
     c.said_of.ensures ∙ ap said_of c.judge.ensures
     ∙ list_asked (account_of a.morning.now a.noon.now) a.question a.sent a.numbers.now a.uses.now
-    (asked (goal.at.returns c).After-is_asked ∙ not-false c.is_asked.result c.if-not-is_asked.false)
+    (asked (goal.at.returns c).After-is_asked ∙ c.if-not-is_asked.false)
     c.asking_over-asking.result c.asking_over-asking.ensures

@@ -3,6 +3,7 @@ use mathlib.Core.Bool.{true, false}
 use mathlib.Core.List.{[]}
 use Prim.Native.Nat.{◌-◌}
 use native.Mathlib.Omega.{arith}
+use borrow.Author.Rules.{rules}
 use lib.ListN.{length, length-map}
 use lib.Seq.{sets}
 use Rattle.spread.specs.Accepted.{open_of, steps_of, sound_prompts, sound_table, prompt_places, spread_places}

@@ -31,22 +31,24 @@ pub pools_of-pools-requires : goal.pools_of-pools-requires
 pools_of-pools-requires c = (sound-lent (goal.at.pools_of-pools-requires c).Start, ((search rules), (search rules)))
 
 pub run-requires : goal.run-requires
-run-requires c = (
-  and_right (sound_prompts (lent (goal.at.run-requires c).Start)) (sound_table c.args.table) c.requires.0,
-  (pooled_small (lent (goal.at.run-requires c).Start) _ (search rules) (length-map c.args.nets.now _ ∙ search rules) (sound-lent (goal.at.run-requires c).Start) c.pools_of-pools.ensures, c.requires.1.0),
-)
+run-requires c =
+    let at = (goal.at.run-requires c).Start in (
+      and_right (sound_prompts (lent at)) (sound_table c.args.table) c.requires.0,
+      (pooled_small (lent at) _ (search rules) (length-map c.args.nets.now _ ∙ search rules) (sound-lent at) c.pools_of-pools.ensures, c.requires.1.0),
+    )
 
 pub slice_bounds-pay-end-3 : goal.slice_bounds-pay-end-3
 slice_bounds-pay-end-3 c = sym (as_many (goal.at.slice_bounds-pay-end-3 c).After-run)
 
 pub pay-requires : goal.pay-requires
-pay-requires c = (
-  sound-lent (goal.at.pay-requires c).Start,
-  (
-    ((search rules), (search rules)),
-    (as_many (goal.at.pay-requires c).After-run, c.requires.1.1),
-  ),
-)
+pay-requires c =
+    let at = goal.at.pay-requires c in (
+      sound-lent at.Start,
+      (
+        ((search rules), (search rules)),
+        (as_many at.After-run, c.requires.1.1),
+      ),
+    )
 
 pub returns : goal.returns
 returns c =

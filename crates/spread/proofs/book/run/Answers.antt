@@ -95,7 +95,8 @@ pools_for-others-requires c =
 
 pub take-took-requires-then-has_room-2 : goal.take-took-requires-then-has_room-2
 take-took-requires-then-has_room-2 c =
-    (here (goal.at.take-took-requires-then-has_room-2 c).In-loop-i, pools_small _ _ _ _ c.pools_for-others.ensures (between (goal.at.take-took-requires-then-has_room-2 c).Joined-has_room))
+    let at = goal.at.take-took-requires-then-has_room-2 c in
+    (here at.In-loop-i, pools_small _ _ _ _ c.pools_for-others.ensures (between at.Joined-has_room))
 
 pub put_back-requires-then-has_room-2 : goal.put_back-requires-then-has_room-2
 put_back-requires-then-has_room-2 c =
@@ -103,12 +104,13 @@ put_back-requires-then-has_room-2 c =
 
 pub loop-i-preserved : goal.loop-i-preserved
 loop-i-preserved c =
+    let at = goal.at.loop-i-preserved c in
     let l = c.loop-i in (
       omega arith,
       l.invariant.1,
-      small_taken _ _ _ _ (second-step c).taken (between (goal.at.loop-i-preserved c).Joined-has_room),
-      table_next c.args.table c.args.cells.now l.i l.cells _ _ l.first l.second _ _ _ (spreads (goal.at.loop-i-preserved c).Start) l.invariant.1
-          c.loop-i-test.true (first_step (goal.at.loop-i-preserved c).Joined-has_room) (second-step c) l.invariant.3,
+      small_taken _ _ _ _ (second-step c).taken (between at.Joined-has_room),
+      table_next c.args.table c.args.cells.now l.i l.cells _ _ l.first l.second _ _ _ (spreads at.Start) l.invariant.1
+          c.loop-i-test.true (first_step at.Joined-has_room) (second-step c) l.invariant.3,
     )
 
 pub returns : goal.returns

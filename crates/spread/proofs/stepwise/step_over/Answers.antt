@@ -55,17 +55,20 @@ returns-then-not-can_step c =
     (sym c.can_step.ensures ∙ c.if-not-can_step.true) c.not_taken.ensures
 
 pub pools_of-pools-requires : goal.pools_of-pools-requires
-pools_of-pools-requires c = (sound-lent (goal.at.pools_of-pools-requires c).After-plain-nets, (tiers (goal.at.pools_of-pools-requires c).After-plain-nets, numbers (goal.at.pools_of-pools-requires c).After-plain-nets))
+pools_of-pools-requires c =
+    let at = (goal.at.pools_of-pools-requires c).After-plain-nets in
+    (sound-lent at, (tiers at, numbers at))
 
 pub pools_for-requires : goal.pools_for-requires
 pools_for-requires c = (c.pools_of-pools.ensures.size, sound-given (goal.at.pools_for-requires c).After-plain-nets)
 
 pub take-took-requires : goal.take-took-requires
-take-took-requires c = (
-  sound-given (goal.at.take-took-requires c).After-plain-nets,
-  pools_small _ _ _ _ c.pools_for.ensures
-      (pooled_small (lent (goal.at.take-took-requires c).After-plain-nets) _ (tiers (goal.at.take-took-requires c).After-plain-nets) (length-map c.plain-nets.result _ ∙ numbers (goal.at.take-took-requires c).After-plain-nets) (sound-lent (goal.at.take-took-requires c).After-plain-nets) c.pools_of-pools.ensures),
-)
+take-took-requires c =
+    let at = (goal.at.take-took-requires c).After-plain-nets in (
+      sound-given at,
+      pools_small _ _ _ _ c.pools_for.ensures
+          (pooled_small (lent at) _ (tiers at) (length-map c.plain-nets.result _ ∙ numbers at) (sound-lent at) c.pools_of-pools.ensures),
+    )
 
 pub put_back-requires : goal.put_back-requires
 put_back-requires c =
@@ -77,7 +80,8 @@ slice_bounds-pay-end c =
 
 pub pay-requires : goal.pay-requires
 pay-requires c =
-    (sound-lent (goal.at.pay-requires c).After-plain-nets, ((tiers (goal.at.pay-requires c).After-plain-nets, numbers (goal.at.pay-requires c).After-plain-nets), (search rules, (refl, refl))))
+    let at = (goal.at.pay-requires c).After-plain-nets in
+    (sound-lent at, ((tiers at, numbers at), (search rules, (refl, refl))))
 
 pub returns : goal.returns
 returns c =

@@ -36,15 +36,16 @@ touches_of-touches-requires c =
 
 pub returns : goal.returns
 returns c =
+    let at = (goal.at.returns c).Else-not-book in
     let p = c.args.prompts in
     let lt : length p.tier ≡ prompt_places = search rules in
     let ln : length p.net ≡ prompt_places = search rules in
     let is =
     c.touches_of-touches.ensures
-    ∙ sym (ap (λ (d : Bool). cond d (touches (steps_of c.args.table) (open_of p)) 0) (taken (goal.at.returns c).Else-not-book))
+    ∙ sym (ap (λ (d : Bool). cond d (touches (steps_of c.args.table) (open_of p)) 0) (taken at))
     in
     record {
       book = c.delta_book-book.ensures;
       touches = is;
-      few = let f = touches_few p c.args.table lt ln (taken (goal.at.returns c).Else-not-book) in omega (arith, f, is);
+      few = let f = touches_few p c.args.table lt ln (taken at) in omega (arith, f, is);
     }

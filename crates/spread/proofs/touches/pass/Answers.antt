@@ -34,8 +34,9 @@ overflow_add-touches c =
 
 pub loop-due-smaller : goal.loop-due-smaller
 loop-due-smaller c =
+    let at = (goal.at.loop-due-smaller c).In-loop-due in
     let l = c.loop-due in
-    turn_less l.due l.k c.gives-given.result c.further-k.result (more (goal.at.loop-due-smaller c).In-loop-due) (place (goal.at.loop-due-smaller c).In-loop-due) c.further-k.ensures
+    turn_less l.due l.k c.gives-given.result c.further-k.result (more at) (place at) c.further-k.ensures
 
 pub loop-due-preserved : goal.loop-due-preserved
 loop-due-preserved c =

@@ -37,26 +37,29 @@ pools_of-pools-requires c =
     (sound-lent (goal.at.pools_of-pools-requires c).Start, ((search rules), (search rules)))
 
 pub run_counted-touches-requires : goal.run_counted-touches-requires
-run_counted-touches-requires c = (
-  and_right (sound_prompts (lent (goal.at.run_counted-touches-requires c).Start)) (sound_table c.args.table) c.requires.0,
-  (
-    pooled_small (lent (goal.at.run_counted-touches-requires c).Start) _ (search rules) (length-map c.args.nets.now _ ∙ search rules) (sound-lent (goal.at.run_counted-touches-requires c).Start) c.pools_of-pools.ensures,
-    (c.requires.1.0, record { places = search rules; pools = search rules; sizes = search rules; begun = c.lay.ensures.1 }),
-  ),
-)
+run_counted-touches-requires c =
+    let at = (goal.at.run_counted-touches-requires c).Start in (
+      and_right (sound_prompts (lent at)) (sound_table c.args.table) c.requires.0,
+      (
+        pooled_small (lent at) _ (search rules) (length-map c.args.nets.now _ ∙ search rules) (sound-lent at) c.pools_of-pools.ensures,
+        (c.requires.1.0, record { places = search rules; pools = search rules; sizes = search rules; begun = c.lay.ensures.1 }),
+      ),
+    )
 
 pub slice_bounds-pay-end-3 : goal.slice_bounds-pay-end-3
 slice_bounds-pay-end-3 c = sym (as_many (goal.at.slice_bounds-pay-end-3 c).After-run_counted-touches)
 
 pub pay-requires : goal.pay-requires
-pay-requires c = (
-  sound-lent (goal.at.pay-requires c).Start,
-  (
-    ((search rules), (search rules)),
-    (as_many (goal.at.pay-requires c).After-run_counted-touches, c.requires.1.1),
-  ),
-)
+pay-requires c =
+    let at = goal.at.pay-requires c in (
+      sound-lent at.Start,
+      (
+        ((search rules), (search rules)),
+        (as_many at.After-run_counted-touches, c.requires.1.1),
+      ),
+    )
 
 pub returns : goal.returns
 returns c =
-    let pooled = c.pools_of-pools.ensures in record { book = booked_accepted (lent (goal.at.returns c).Start) c.args.table _ _ _ _ _ _ c.requires.0 pooled c.run_counted-touches.ensures.run c.pay.ensures; touched = c.run_counted-touches.ensures.counted (open_of (lent (goal.at.returns c).Start)) c.lay.ensures.0 (pooled_numbers (steps_of c.args.table) _ (open_of (lent (goal.at.returns c).Start)) pooled) }
+    let at = (goal.at.returns c).Start in
+    let pooled = c.pools_of-pools.ensures in record { book = booked_accepted (lent at) c.args.table _ _ _ _ _ _ c.requires.0 pooled c.run_counted-touches.ensures.run c.pay.ensures; touched = c.run_counted-touches.ensures.counted (open_of (lent at)) c.lay.ensures.0 (pooled_numbers (steps_of c.args.table) _ (open_of (lent at)) pooled) }

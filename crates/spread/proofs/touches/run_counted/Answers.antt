@@ -122,7 +122,8 @@ pools_for-others-requires c =
 
 pub take-took-requires-then-has_room-2 : goal.take-took-requires-then-has_room-2
 take-took-requires-then-has_room-2 c =
-    (here (goal.at.take-took-requires-then-has_room-2 c).In-loop-i, pools_small _ _ _ _ c.pools_for-others.ensures (between (goal.at.take-took-requires-then-has_room-2 c).Joined-has_room))
+    let at = goal.at.take-took-requires-then-has_room-2 c in
+    (here at.In-loop-i, pools_small _ _ _ _ c.pools_for-others.ensures (between at.Joined-has_room))
 
 pub put_back-requires-then-has_room-2 : goal.put_back-requires-then-has_room-2
 put_back-requires-then-has_room-2 c =

@@ -3,24 +3,23 @@
 
 use account::accounts::check;
 use account::answers::Answer;
-use libc::STDOUT_FILENO;
-use reading::input::{called_alone, read_input};
+use reading::input::{ROOM, called_alone, read_input};
 use reading::lines::print_refused;
 
-fn print_verdict(answer: Answer) {
-    if !print_refused(answer) {
-        io::write_all(STDOUT_FILENO, b"A\n");
+fn print_verdict(rt: &impl Print, answer: Answer) {
+    if !print_refused(rt, answer) {
+        let _ = println!(rt; "A");
     }
 }
 
-fn main() {
-    if !called_alone(b"usage: check_program < ACCOUNT\n") {
+fn main(rt: HostRuntime) {
+    if !called_alone(&rt, b"usage: check_program < ACCOUNT\n") {
         return;
     }
-    let mut file = io::large_buffer();
-    let input = read_input(&mut file);
+    let mut file = [0u8; ROOM];
+    let input = read_input(&rt, &mut file);
     if input.whole {
         let n = input.bytes;
-        print_verdict(check(&file[..n]));
+        print_verdict(&rt, check(&file[..n]));
     }
 }

@@ -4,40 +4,40 @@
 
 use margin::asking::Question;
 use questions::plain::needed;
-use reading::input::{called_alone, read_input};
+use reading::input::{ROOM, called_alone, read_input};
 use reading::lines::{FIGURES, MOST_FIGURES, print_contract, print_refused, print_total};
 use reading::numbers::{after, number_at};
 
 // Eight numbers for each contract, then the total.
-fn print_figures(count: usize, numbers: &[i64]) {
+fn print_figures(rt: &impl Print, count: usize, numbers: &[i64]) {
     let mut rest = numbers;
     let mut k = 0;
     while k < count {
-        print_contract(rest);
+        print_contract(rt, rest);
         let later = after(rest, FIGURES);
         rest = later;
         k += 1;
     }
-    print_total(number_at(rest, 0));
+    print_total(rt, number_at(rest, 0));
 }
 
-fn answer(file: &[u8]) {
+fn answer(rt: &impl Print, file: &[u8]) {
     let mut numbers = [0i64; MOST_FIGURES];
     let answer = questions::plain::answer(file, Question::Figures, &mut numbers);
-    if print_refused(answer) {
+    if print_refused(rt, answer) {
         return;
     }
-    print_figures(needed(file, Question::Figures) / FIGURES, &numbers);
+    print_figures(rt, needed(file, Question::Figures) / FIGURES, &numbers);
 }
 
-fn main() {
-    if !called_alone(b"usage: margin_program < ACCOUNT\n") {
+fn main(rt: HostRuntime) {
+    if !called_alone(&rt, b"usage: margin_program < ACCOUNT\n") {
         return;
     }
-    let mut file = io::large_buffer();
-    let input = read_input(&mut file);
+    let mut file = [0u8; ROOM];
+    let input = read_input(&rt, &mut file);
     if input.whole {
         let n = input.bytes;
-        answer(&file[..n]);
+        answer(&rt, &file[..n]);
     }
 }

@@ -1,7 +1,13 @@
 // The file on standard input.
-ghost use Rattle.io.specs.Counts.{IsPrefixLen};
+ghost use Rattle.reading.specs.Counts.{IsPrefixLen};
 
-use libc::{STDERR_FILENO, STDIN_FILENO};
+use std::env::FillError;
+use std::io;
+use std::io::Read;
+use std::rt::Env;
+
+// How many bytes of standard input a program has room for: more than any account file that is accepted.
+pub const ROOM: usize = 65536;
 
 // Whether standard input was read until its end or until the memory was full, and how many bytes stand in front there.
 #[derive(Clone, Copy)]
@@ -11,31 +17,40 @@ pub struct Input {
 }
 
 // Whether the program was called with no words; if not, how it is called is said on standard error.
-pub fn called_alone(usage: &[u8]) -> bool {
-    if os::arg_count() < 2 {
+pub fn called_alone(rt: &HostRuntime, usage: &[u8]) -> bool {
+    let mut word = [0u8; 1];
+    if let Err(FillError::NotPresent) = rt.arg(1, &mut word) {
         return true;
     }
-    io::write_all(STDERR_FILENO, usage);
+    let _ = rt.stderr().write_all(usage);
     false
 }
 
-// Whether standard input has ended: `io::read_full` stops at an error as at the end.
-fn has_ended() -> bool {
-    let mut spare = [0u8; 1];
-    libc::read(STDIN_FILENO, &mut spare) == 0
+// Whether standard input has ended where a read brought nothing; if it failed, why is said on standard error.
+fn has_ended(rt: &impl Eprint, read: io::Result<usize>) -> bool {
+    match read {
+        Ok(_) => true,
+        Err(e) => {
+            let _ = eprintln!(rt; "standard input: {e}");
+            false
+        }
+    }
 }
 
 // Reads standard input into `file`. Where it cannot be read to its end, that is said on standard error.
-pub fn read_input(file: &mut [u8]) -> Input
+pub fn read_input(rt: &(impl io::Input + Eprint), file: &mut [u8]) -> Input
     ensures { IsPrefixLen result.bytes file.new }
 {
-    let bytes = io::read_full(STDIN_FILENO, file);
-    if file.len() <= bytes {
-        return Input { whole: true, bytes };
+    let mut input = rt.reader();
+    let mut bytes = 0;
+    while bytes < file.len() {
+        match input.read(&mut file[bytes..]) {
+            Ok(n) if 0 < n => bytes += n,
+            read => {
+                let whole = has_ended(rt, read);
+                return Input { whole, bytes };
+            }
+        }
     }
-    let whole = has_ended();
-    if !whole {
-        os::fail(b"standard input");
-    }
-    Input { whole, bytes }
+    Input { whole: true, bytes }
 }

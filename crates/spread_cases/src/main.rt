@@ -2,7 +2,6 @@
 // steps, and net, used and unused of each prompt, all in ten-thousandths.
 #![tactic(auto)]
 
-use libc::STDOUT_FILENO;
 use spread::book::{Book, delta_book};
 use spread::{Delta, Leg, MOST_PROMPTS, MOST_SPREADS, Prompts, Spread, Table};
 
@@ -72,43 +71,37 @@ fn spread(table: Table, a: u8, a_ratio: u16, b: u8, b_ratio: u16) -> Table {
     pair(table, a, a_ratio, b, b_ratio, false)
 }
 
-fn print_delta(delta: Delta) {
-    io::write_all(STDOUT_FILENO, b" ");
-    if delta.is_short() {
-        io::write_all(STDOUT_FILENO, b"-");
-    }
-    io::print_decimal(STDOUT_FILENO, delta.size());
+fn print_delta(rt: &impl Print, delta: Delta) {
+    let sign = if delta.is_short() { "-" } else { "" };
+    let size = delta.size();
+    let _ = print!(rt; " {sign}{size}");
 }
 
-fn print_spread(first: u64, second: u64) {
-    io::write_all(STDOUT_FILENO, b"spread ");
-    io::print_decimal(STDOUT_FILENO, first);
-    io::write_all(STDOUT_FILENO, b" ");
-    io::print_decimal(STDOUT_FILENO, second);
-    io::write_all(STDOUT_FILENO, b"\n");
+fn print_spread(rt: &impl Print, first: u64, second: u64) {
+    let _ = println!(rt; "spread {first} {second}");
 }
 
-fn print_prompt(net: Delta, used: Delta, unused: Delta) {
-    io::write_all(STDOUT_FILENO, b"prompt");
-    print_delta(net);
-    print_delta(used);
-    print_delta(unused);
-    io::write_all(STDOUT_FILENO, b"\n");
+fn print_prompt(rt: &impl Print, net: Delta, used: Delta, unused: Delta) {
+    let _ = print!(rt; "prompt");
+    print_delta(rt, net);
+    print_delta(rt, used);
+    print_delta(rt, unused);
+    let _ = println!(rt);
 }
 
-fn print_spreads(count: usize, book: Book) {
+fn print_spreads(rt: &impl Print, count: usize, book: Book) {
     let mut k = 0;
     while k < MOST_SPREADS {
         if k < count {
             let first = book.first[k];
             let second = book.second[k];
-            print_spread(first.0, second.0);
+            print_spread(rt, first.0, second.0);
         }
         k += 1;
     }
 }
 
-fn print_prompts(prompts: Prompts, book: Book) {
+fn print_prompts(rt: &impl Print, prompts: Prompts, book: Book) {
     let count = prompts.count;
     let mut k = 0;
     while k < MOST_PROMPTS {
@@ -116,21 +109,21 @@ fn print_prompts(prompts: Prompts, book: Book) {
             let net = prompts.net[k];
             let used = book.used[k];
             let unused = book.unused[k];
-            print_prompt(net, used, unused);
+            print_prompt(rt, net, used, unused);
         }
         k += 1;
     }
 }
 
-fn print_case(prompts: Prompts, table: Table) {
+fn print_case(rt: &impl Print, prompts: Prompts, table: Table) {
     let book = delta_book(prompts, table);
     let count = table.count;
-    print_spreads(count, book);
-    print_prompts(prompts, book);
+    print_spreads(rt, count, book);
+    print_prompts(rt, prompts, book);
 }
 
-fn p1() {
-    io::write_all(STDOUT_FILENO, b"P1\n");
+fn p1(rt: &impl Print) {
+    let _ = println!(rt; "P1");
     let mut p = no_prompts();
     p = prompt(p, 1, -300000);
     p = prompt(p, 2, 200000);
@@ -145,11 +138,11 @@ fn p1() {
     t = spread(t, 1, 1, 2, 1);
     t = spread(t, 2, 1, 3, 1);
     t = spread(t, 1, 1, 3, 1);
-    print_case(p, t);
+    print_case(rt, p, t);
 }
 
-fn p2() {
-    io::write_all(STDOUT_FILENO, b"P2\n");
+fn p2(rt: &impl Print) {
+    let _ = println!(rt; "P2");
     let mut p = no_prompts();
     p = prompt(p, 1, 180000);
     p = prompt(p, 1, -60000);
@@ -159,21 +152,21 @@ fn p2() {
     t = spread(t, 1, 1, 1, 1);
     t = spread(t, 1, 1, 2, 1);
     t = spread(t, 1, 1, 3, 1);
-    print_case(p, t);
+    print_case(rt, p, t);
 }
 
-fn p3() {
-    io::write_all(STDOUT_FILENO, b"P3\n");
+fn p3(rt: &impl Print) {
+    let _ = println!(rt; "P3");
     let mut p = no_prompts();
     p = prompt(p, 1, 30001);
     p = prompt(p, 1, -50000);
     let mut t = no_spreads();
     t = spread(t, 1, 2, 1, 1);
-    print_case(p, t);
+    print_case(rt, p, t);
 }
 
-fn p4() {
-    io::write_all(STDOUT_FILENO, b"P4\n");
+fn p4(rt: &impl Print) {
+    let _ = println!(rt; "P4");
     let mut p = no_prompts();
     p = prompt(p, 1, 100000);
     p = prompt(p, 2, -100000);
@@ -181,22 +174,22 @@ fn p4() {
     let mut t = no_spreads();
     t = spread(t, 1, 1, 2, 1);
     t = spread(t, 1, 1, 3, 1);
-    print_case(p, t);
+    print_case(rt, p, t);
 }
 
-fn tenths() {
-    io::write_all(STDOUT_FILENO, b"2026-03\n");
+fn tenths(rt: &impl Print) {
+    let _ = println!(rt; "2026-03");
     let mut p = no_prompts();
     p = prompt(p, 1, 1200000);
     p = prompt(p, 2, -10012);
     let t = pair(no_spreads(), 1, 96, 2, 10, true);
-    print_case(p, t);
+    print_case(rt, p, t);
 }
 
-fn main() {
-    p1();
-    p2();
-    p3();
-    p4();
-    tenths();
+fn main(rt: HostRuntime) {
+    p1(&rt);
+    p2(&rt);
+    p3(&rt);
+    p4(&rt);
+    tenths(&rt);
 }

@@ -24,23 +24,18 @@ const TABLE_QUESTION: u64 = 16;
 const CONTRACTS: [u64; 3] = [0, 3, 5];
 
 const HEADER: &str = "-- What the definitions compute, checked against the independent program.
-use Prim.Native.Nat.{ℕ}
-use mathlib.Core.Path.{_≡_, refl}
-use mathlib.Core.Bool.{true, false}
-use mathlib.Core.List.{List, [], _∷_, _++_}
-use lib.IntN.{ℤ, pos, negsuc}
-use lib.ListN.{replicate}
-use Rattle·record.specs.Ranges.{unusedByte, fieldOutside}
-use Rattle·account.specs.Answers.{numberOf, recordOf}
-use Rattle·account.specs.Checked.{checked}
-use Rattle·account.specs.Noon.{joinedVerdict, promptPlace}
-use Rattle·account.specs.Records.{records}
-use Rattle·account.specs.Joined.{accountOf}
-use Rattle·margin.specs.Books.{answered, book}
-use Rattle·margin.specs.Figures.{figures}
-use Rattle·margin.specs.Uses.{uses}
-use Rattle·questions.specs.Noon.{joinedCall}
-use Rattle·questions.specs.Questions.{figuresAnswer}
+use Rattle.std.specs.Prelude.{ℕ, ◌≡◌, refl, true, false, List, [], ◌∷◌, ◌++◌, ℤ, pos, negsuc, replicate}
+use Rattle.record.specs.Ranges.{unused_byte, field_outside}
+use Rattle.account.specs.Answers.{number_of, record_of}
+use Rattle.account.specs.Checked.{checked}
+use Rattle.account.specs.Noon.{joined_verdict, prompt_place}
+use Rattle.account.specs.Records.{records}
+use Rattle.account.specs.Joined.{account_of}
+use Rattle.margin.specs.Books.{answered, book}
+use Rattle.margin.specs.Figures.{figures}
+use Rattle.margin.specs.Uses.{uses}
+use Rattle.questions.specs.Noon.{joined_call}
+use Rattle.questions.specs.Questions.{figures_answer}
 ";
 
 fn main() -> io::Result<()> {
@@ -84,7 +79,7 @@ fn noon_of(morning: &Path) -> io::Result<Vec<u8>> {
 /// What is claimed of one record.
 fn claim_record(module: &mut String, name: &str, record: &[u8]) {
     let (definition, number) =
-        if fault(UNUSED_BYTE, Record(record), &[]) { ("unusedByte", UNUSED_BYTE) } else { ("fieldOutside", OUT_OF_RANGE) };
+        if fault(UNUSED_BYTE, Record(record), &[]) { ("unused_byte", UNUSED_BYTE) } else { ("field_outside", OUT_OF_RANGE) };
     let found = fault(number, Record(record), &[]);
     claim(module, &format!("{definition}-{name}"), &format!("{definition} ({})", bytes(record)), found);
 }
@@ -93,8 +88,8 @@ fn claim_record(module: &mut String, name: &str, record: &[u8]) {
 fn claim_file(module: &mut String, name: &str, file: &[u8]) {
     let (number, record) = check(file).map_or_else(|refusal| (refusal.number, refusal.record), |_| (0, 0));
     writeln!(module, "\nabbrev file-{name} : List ℕ\nfile-{name} = {}", bytes(file)).unwrap();
-    claim(module, &format!("number-{name}"), &format!("numberOf (checked file-{name})"), number);
-    claim(module, &format!("record-{name}"), &format!("recordOf (checked file-{name})"), record);
+    claim(module, &format!("number-{name}"), &format!("number_of (checked file-{name})"), number);
+    claim(module, &format!("record-{name}"), &format!("record_of (checked file-{name})"), record);
     if number != 0 {
         return;
     }
@@ -103,9 +98,9 @@ fn claim_file(module: &mut String, name: &str, file: &[u8]) {
     for lent in [written - 1, written] {
         let refusal =
             figures(file, &mut [0; MOST_NUMBERS][..lent]).map_or_else(|refusal| (refusal.number, refusal.record), |_| (0, 0));
-        let answer = format!("(figuresAnswer file-{name} {lent})");
-        claim(module, &format!("lent-{name}-{lent}"), &format!("numberOf {answer}"), refusal.0);
-        claim(module, &format!("lent-record-{name}-{lent}"), &format!("recordOf {answer}"), refusal.1);
+        let answer = format!("(figures_answer file-{name} {lent})");
+        claim(module, &format!("lent-{name}-{lent}"), &format!("number_of {answer}"), refusal.0);
+        claim(module, &format!("lent-record-{name}-{lent}"), &format!("record_of {answer}"), refusal.1);
     }
     let given = format!("(records file-{name})");
     claim(module, &format!("figures-{name}"), &format!("figures {given}"), numbers(&lent[..written]));
@@ -121,18 +116,18 @@ fn claim_pair(module: &mut String, name: &str, morning: &[u8], noon: &[u8]) {
     }
     let given = format!("morning-{name} noon-{name}");
     let joined = joined::join(morning, noon);
-    claim_verdict(module, &format!("joined-{name}"), &format!("(joinedVerdict {given})"), outcome(&joined));
+    claim_verdict(module, &format!("joined-{name}"), &format!("(joined_verdict {given})"), outcome(&joined));
     for contract in CONTRACTS {
         let part = joined::prompts(morning, noon, contract);
         for (field, found) in [("file", usize::from(part.file)), ("first", part.first), ("records", part.records)] {
-            claim(module, &format!("{field}-{name}-{contract}"), &format!("promptPlace {given} {contract} .{field}"), found);
+            claim(module, &format!("{field}-{name}-{contract}"), &format!("(prompt_place {given} {contract}).{field}"), found);
         }
     }
     let mut lent = [0; MOST_NUMBERS];
     let written = joined::figures(morning, noon, &mut lent);
     let total = written.as_ref().map_or(0, |&written| lent[written - 1]);
     if let Ok(written) = written {
-        let account = format!("(accountOf {given})");
+        let account = format!("(account_of {given})");
         claim(module, &format!("figures-{name}"), &format!("figures {account}"), numbers(&lent[..written]));
         let book = |question, lent: &mut [i64]| joined::book(morning, noon, question, lent).ok();
         let uses = |question, lent: &mut [i64]| joined::uses(morning, noon, question, lent).ok();
@@ -143,17 +138,17 @@ fn claim_pair(module: &mut String, name: &str, morning: &[u8], noon: &[u8]) {
     for (place, amounts) in [[below, 0, below], [below, 1, 0], [total, 0, 0], [0, 0, total], [below, 0, 0]].iter().enumerate() {
         let call = call_of(&given, amounts);
         let answer = joined::call(morning, noon, cover(amounts));
-        claim(module, &format!("call-{name}-{place}"), &format!("{call} .amount .0"), answer.map_or(0, |call| call.0));
+        claim(module, &format!("call-{name}-{place}"), &format!("{call}.amount.0"), answer.map_or(0, |call| call.0));
     }
     let most = 1_000_000_000_000_000;
     for (place, amounts) in [[most, most, most], [most + 1, 0, 0], [0, most + 1, 0], [0, 0, -1]].iter().enumerate() {
-        let verdict = format!("({} .verdict)", call_of(&given, amounts));
+        let verdict = format!("{}.verdict", call_of(&given, amounts));
         claim_verdict(module, &format!("called-{name}-{place}"), &verdict, outcome(&joined::call(morning, noon, cover(amounts))));
     }
 }
 
 fn call_of(given: &str, amounts: &[i64; 3]) -> String {
-    format!("(joinedCall {given} {})", amounts.map(integer).join(" "))
+    format!("(joined_call {given} {})", amounts.map(integer).join(" "))
 }
 
 fn cover(amounts: &[i64; 3]) -> Cover {
@@ -167,9 +162,9 @@ fn outcome<T>(answer: &Result<T, PairRefusal>) -> (u8, u8, usize) {
 
 /// The file, the number and the record of what is said of a pair.
 fn claim_verdict(module: &mut String, name: &str, verdict: &str, (file, number, record): (u8, u8, usize)) {
-    claim(module, &format!("{name}-file"), &format!("{verdict} .file"), file);
-    claim(module, &format!("{name}-number"), &format!("numberOf ({verdict} .answer)"), number);
-    claim(module, &format!("{name}-record"), &format!("recordOf ({verdict} .answer)"), record);
+    claim(module, &format!("{name}-file"), &format!("{verdict}.file"), file);
+    claim(module, &format!("{name}-number"), &format!("number_of {verdict}.answer"), number);
+    claim(module, &format!("{name}-record"), &format!("record_of {verdict}.answer"), record);
 }
 
 /// Which questions are answered, and the books and the uses of those.

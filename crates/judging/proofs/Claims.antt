@@ -293,8 +293,8 @@ module _ (ss : List (List Taker)) (ps : List Open) (ok : sound_steps ss ≡ true
         let w = told_whole sent xs us (c.uses ∙ ap₂ ◌*◌ (sym c.steps) (sym c.prompts)) in
         record { prompts = c.prompts; numbers = sym w.numbers ∙ r.numbers; uses = sym w.uses ∙ ap in_one_list r.uses }
 
-    yes : Iff (judged_list ss ps sent xs us ≡ Right) (TheList ss ps ours sent xs us)
-    yes =
+    right_is_the_list : Iff (judged_list ss ps sent xs us ≡ Right) (TheList ss ps ours sent xs us)
+    right_is_the_list =
         record {
           forth = λ e. let c = if_right e in the_list c ((exactly_so c Right).forth e);
           back = λ l. (exactly_so (same_counts_lem l) Right).back (is_right_lem l);
@@ -308,5 +308,5 @@ module _ (ss : List (List Taker)) (ps : List Open) (ok : sound_steps ss ≡ true
           counts = counts;
           whole = λ c. told_whole sent xs us (c.uses ∙ ap₂ ◌*◌ (sym c.steps) (sym c.prompts));
           exactly = λ c list p v. subst (λ (l : List ℕ). Iff (judged_list ss ps sent xs us ≡ v) (VerdictSays ss ps l ts v)) (sym (only list p)) (exactly_so c v);
-          yes = λ list p. subst (λ (l : List ℕ). Iff (judged_list ss ps sent xs us ≡ Right) (TheList ss ps l sent xs us)) (sym (only list p)) yes;
+          yes = λ list p. subst (λ (l : List ℕ). Iff (judged_list ss ps sent xs us ≡ Right) (TheList ss ps l sent xs us)) (sym (only list p)) right_is_the_list;
         }

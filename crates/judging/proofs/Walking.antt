@@ -14,7 +14,7 @@ use lib.Seq.{drop-cons, drop-drop, get_or-take, length-take-le}
 use borrow.Author.Tests.{eqb-true}
 use Rattle.spread.specs.Accepted.{open_of, table_spreads, steps_of, sound_spread, sound_prompts, sound_table, sound, prompt_places, spread_places}
 use Rattle.spread.specs.code.Book.{by_place, delta_entry}
-use Rattle.spread.specs.Steps.{step_of, Open, Taker, steps, formed, after, left}
+use Rattle.spread.specs.Steps.{step_of, Open, Taker, steps, formed, after}
 use Rattle.spread.specs.Uses.{taken_of, sound_for}
 use Rattle.spread.specs.code.Step.{Stepped}
 use Rattle.spread.specs.declared.Delta.{Delta}

@@ -105,7 +105,7 @@ returns c =
     all s.accounts.now s.lengths.now s.out.now (omega (arith, few))
     (sym c.add_up.ensures
     ∙ c.if-not-add_up.false) (omega (arith, room))
-    c.put_sums.new.1.0 (c.put_sums.ensures
+    c.put_sums.new.out (c.put_sums.ensures
     ∙ ap (λ (xs : List ℕ). map pos xs ++ drop committee_numbers s.out.now) e)
     in
     (h.is, h.out_is)

@@ -1,8 +1,8 @@
 -- `compare`: the step that is taken, its number and its uses beside those that are sent.
 -- Assumes nothing.
-use mathlib.Core.Path.{◌≡◌, sym, ◌∙◌}
+use mathlib.Core.Path.{◌≡◌}
 use borrow.Author.Rules.{rules}
-use lib.ListN.{length, length-map}
+use lib.ListN.{length}
 use Prim.Native.Nat.{◌≤◌}
 use native.Mathlib.Omega.{arith}
 use Rattle.spread.specs.Accepted.{sound_prompts, sound_spread, prompt_places}

@@ -3,7 +3,6 @@
 use mathlib.Core.Bool.{Bool, ◌||◌}
 use mathlib.Core.Path.{◌∙◌, ap₂}
 use Prim.Native.Nat.{ℕ}
-use borrow.Author.Rules.{rules}
 use lib.Dec.{ltb}
 use lib.IntN.{nat_abs}
 use Rattle.exact.proofs.Integers.{seen}

@@ -1,24 +1,23 @@
 use mathlib.Core.Path.{◌≡◌, sym, ap, ◌∙◌, subst}
 use Prim.Native.Nat.{ℕ, ◌+◌, ◌-◌, ◌*◌, ◌/◌, ◌%◌}
 use native.Mathlib.Omega.{arith}
+use borrow.Author.Rules.{rules}
 use lib.Dec.{eqb}
-use lib.ListN.{length, length-map, get_or, take, drop}
+use lib.ListN.{length, get_or, take, drop}
 use mir.Syntax.{w64}
 use mir.Val.{SFits}
 use Rattle.exact.proofs.Integers.{back}
 use Rattle.judging.specs.code.Compared.{ComparedTo}
 use mathlib.Core.Bool.{true, false}
 use mathlib.Core.List.{[]}
-use borrow.Author.Tests.{not-true, not-false}
 use lib.IntN.{ℤ, pos}
-use Rattle.spread.specs.Accepted.{open_of, steps_of, sound_prompts, sound_table, spread_places}
+use Rattle.spread.specs.Accepted.{sound_prompts, sound_table, spread_places}
 use Rattle.spread.specs.declared.Spread.{Spread}
 use Rattle.spread.proofs.Both.{and_right}
 use Rattle.spread.proofs.Gathering.{few_in_table}
-use Rattle.judging.specs.Judged.{told_of, judged_from}
-use Rattle.judging.proofs.Walking.{Judging, begins, part_long, room_here, sound_here, stops, goes, ends}
+use Rattle.judging.proofs.Walking.{begins, part_long, room_here, sound_here, stops, goes, ends}
 use Rattle.judging.proofs.judge_steps.Goals as goal
-use Rattle.judging.proofs.judge_steps.Goals.{After-compare-compared, In-loop-step, Start}
+use Rattle.judging.proofs.judge_steps.Goals.{After-compare-compared, Start}
 
 abbrev no_spread : Spread
 no_spread = record { legs = 0; leg = []; tenths = false }
@@ -30,25 +29,21 @@ spread-places s = search rules
 sound-table : (s : Start) → sound_table s.args.table ≡ true
 sound-table s = and_right (sound_prompts s.args.prompts) (sound_table s.args.table) s.requires.0
 
--- the head of the turn, and what is said of the step, of the number itself
-module _ (c : After-compare-compared) where
-  abbrev head : In-loop-step
-  head = c.before.before.before.before
-
-  said :
-      let l = c.loop-step in
-      let s = c.args in
-      ComparedTo l.left (get_or s.t2.spread (l.step / 2) no_spread) (eqb (l.step % 2) 1) l.step (get_or s.numbers.now l.step (pos 0))
-      (take (l.at + s.prompts.count - l.at) (drop l.at s.uses.now)) c.compare-compared.result
-  said =
-      let l = c.loop-step in
-      let s = c.args in
-      let z = get_or s.numbers.now l.step (pos 0) in
-      let fits : SFits w64 z = record { sfits = c.compare-arg-1.given } in
-      subst
-      (λ (x : ℤ). ComparedTo l.left (get_or s.t2.spread (l.step / 2) no_spread) (eqb (l.step % 2) 1) l.step x
-      (take (l.at + s.prompts.count - l.at) (drop l.at s.uses.now)) c.compare-compared.result)
-      (back z fits) c.compare-compared.ensures
+-- what is said of the step, of the number itself
+said : (c : After-compare-compared) →
+    let l = c.loop-step in
+    let s = c.args in
+    ComparedTo l.left (get_or s.table.spread (l.step / 2) no_spread) (eqb (l.step % 2) 1) l.step (get_or s.numbers.now l.step (pos 0))
+    (take (l.at + s.prompts.count - l.at) (drop l.at s.uses.now)) c.compare-compared.result
+said c =
+    let l = c.loop-step in
+    let s = c.args in
+    let z = get_or s.numbers.now l.step (pos 0) in
+    let fits : SFits w64 z = record { sfits = c.compare-arg-1.given } in
+    subst
+    (λ (x : ℤ). ComparedTo l.left (get_or s.table.spread (l.step / 2) no_spread) (eqb (l.step % 2) 1) l.step x
+    (take (l.at + s.prompts.count - l.at) (drop l.at s.uses.now)) c.compare-compared.result)
+    (back z fits) c.compare-compared.ensures
 
 pub loop-step-init : goal.loop-step-init
 loop-step-init c =
@@ -62,52 +57,54 @@ bounds-table-step c =
 
 pub overflow_add-at : goal.overflow_add-at
 overflow_add-at c =
+    let at = (goal.at.overflow_add-at c).Start in
     let l = c.loop-step in
-    let r = room_here c.args.table (spread-places (goal.at.overflow_add-at c).Start) (sound-table (goal.at.overflow_add-at c).Start) c.args.prompts.count c.args.numbers.now c.args.uses.now
+    let r = room_here c.args.table (spread-places at) (sound-table at) c.args.prompts.count c.args.numbers.now c.args.uses.now
     c.requires.1.0 _ l.step l.at l.left l.invariant c.loop-step-test.true in
-    omega (arith, r, c.well_formed.1.1.1.0)
+    omega (arith, r)
 
 pub compare-compared-requires : goal.compare-compared-requires
 compare-compared-requires c =
+    let at = (goal.at.compare-compared-requires c).Start in
     let l = c.loop-step in
     let h = c.loop-step-test.true in (
-      sound_here c.args.table (spread-places (goal.at.compare-compared-requires c).Start) (sound-table (goal.at.compare-compared-requires c).Start) c.args.prompts.count c.args.numbers.now c.args.uses.now c.requires.1.0 _
+      sound_here c.args.table (spread-places at) (sound-table at) c.args.prompts.count c.args.numbers.now c.args.uses.now c.requires.1.0 _
           l.step l.at l.left l.invariant h no_spread,
-      part_long c.args.table (spread-places (goal.at.compare-compared-requires c).Start) (sound-table (goal.at.compare-compared-requires c).Start) c.args.prompts.count c.args.numbers.now c.args.uses.now c.requires.1.0 _
+      part_long c.args.table (spread-places at) (sound-table at) c.args.prompts.count c.args.numbers.now c.args.uses.now c.requires.1.0 _
           l.step l.at l.left l.invariant h no_spread,
     )
 
 pub returns-then-not-is_right : goal.returns-then-not-is_right
 returns-then-not-is_right c =
-    let turn = head (goal.at.returns-then-not-is_right c).After-compare-compared in
-    let s = turn.before.before in
-    let l = turn.before.loop in
-    stops s.args.t2 (spread-places s) (sound-table s) s.args.prompts.count s.args.numbers.now s.args.uses.now s.pre.1.0 _
-    l.step l.at l.left l.inv turn.loop-test.taken no_spread
-    c.compare-compared.result (said (goal.at.returns-then-not-is_right c).After-compare-compared)
-    (sym c.is_right.ensures ∙ not-true c.is_right.result c.if-not-is_right.true)
+    let at = goal.at.returns-then-not-is_right c in
+    let s = at.Start in
+    let l = c.loop-step in
+    stops c.args.table (spread-places s) (sound-table s) c.args.prompts.count c.args.numbers.now c.args.uses.now c.requires.1.0 _
+    l.step l.at l.left l.invariant c.loop-step-test.true no_spread
+    c.compare-compared.result (said at.After-compare-compared)
+    (sym c.is_right.ensures ∙ c.if-not-is_right.true)
 
 pub overflow_add-at-in-loop-step : goal.overflow_add-at-in-loop-step
 overflow_add-at-in-loop-step c =
-    let turn = head (goal.at.overflow_add-at-in-loop-step c).After-compare-compared in
-    let s = turn.before.before in
-    let l = turn.before.loop in
-    let r = room_here s.args.t2 (spread-places s) (sound-table s) s.args.prompts.count s.args.numbers.now s.args.uses.now
-    s.pre.1.0 _ l.step l.at l.left l.inv turn.loop-test.taken in
-    omega (arith, r, s.good.1.1.1.0)
+    let s = (goal.at.overflow_add-at-in-loop-step c).Start in
+    let l = c.loop-step in
+    let r = room_here c.args.table (spread-places s) (sound-table s) c.args.prompts.count c.args.numbers.now c.args.uses.now
+    c.requires.1.0 _ l.step l.at l.left l.invariant c.loop-step-test.true in
+    omega (arith, r)
 
 pub loop-step-preserved : goal.loop-step-preserved
 loop-step-preserved c =
-    let turn = head (goal.at.loop-step-preserved c).After-compare-compared in
-    let s = turn.before.before in
-    let l = turn.before.loop in
-    goes s.args.t2 (spread-places s) (sound-table s) s.args.prompts.count s.args.numbers.now s.args.uses.now s.pre.1.0 _
-    l.step l.at l.left l.inv turn.loop-test.taken no_spread
-    c.compare-compared.result (said (goal.at.loop-step-preserved c).After-compare-compared)
-    (sym c.is_right.ensures ∙ not-false c.is_right.result c.if-not-is_right.false)
+    let at = goal.at.loop-step-preserved c in
+    let s = at.Start in
+    let l = c.loop-step in
+    goes c.args.table (spread-places s) (sound-table s) c.args.prompts.count c.args.numbers.now c.args.uses.now c.requires.1.0 _
+    l.step l.at l.left l.invariant c.loop-step-test.true no_spread
+    c.compare-compared.result (said at.After-compare-compared)
+    (sym c.is_right.ensures ∙ c.if-not-is_right.false)
 
 pub returns : goal.returns
 returns c =
+    let at = (goal.at.returns c).Start in
     let l = c.loop-step in
-    ends c.args.table (spread-places (goal.at.returns c).Start) (sound-table (goal.at.returns c).Start) c.args.prompts.count c.args.numbers.now c.args.uses.now c.requires.1.0 _
+    ends c.args.table (spread-places at) (sound-table at) c.args.prompts.count c.args.numbers.now c.args.uses.now c.requires.1.0 _
     l.step l.at l.left l.invariant (omega arith)

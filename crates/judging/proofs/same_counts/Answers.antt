@@ -3,7 +3,6 @@
 use native.Mathlib.Nat.{mul-le-mul}
 use native.Mathlib.Omega.{arith}
 use Prim.Native.Nat.{◌*◌, ◌≤◌}
-use borrow.Author.Rules.{rules}
 use Rattle.spread.specs.Accepted.{spread_places}
 use Rattle.judging.proofs.same_counts.Goals as goal
 

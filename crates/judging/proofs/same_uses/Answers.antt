@@ -1,9 +1,8 @@
 use mathlib.Core.Bool.{Bool, true, false, ◌&&◌}
 use mathlib.Core.Path.{◌≡◌, refl, sym, ap, ◌∙◌}
-use Prim.Native.Nat.{ℕ, suc, ◌-◌, ◌≤◌}
+use Prim.Native.Nat.{ℕ, suc, ◌≤◌}
 use native.Mathlib.Numerals.{add-one}
 use native.Mathlib.Omega.{arith}
-use borrow.Author.Tests.{not-true, not-false}
 use lib.IntN.{ℤ, pos}
 use lib.ListN.{length, get_or, take, drop}
 use mir.Syntax.{w64}
@@ -26,7 +25,7 @@ returns-then-not-same_use c =
     let fits : SFits w64 (get_or us l.i (pos 0)) = record { sfits = c.same_use-arg-1.given } in
     let e : level (get_or us l.i (pos 0)) (get_or ds l.i no_delta).0 ≡ false =
     sym (seen (λ (x : ℤ). level x (get_or ds l.i no_delta).0) (get_or us l.i (pos 0)) fits c.same_use.ensures)
-    ∙ not-true c.same_use.result c.if-not-same_use.true in
+    ∙ c.if-not-same_use.true in
     let few : length us ≤ length ds = omega arith in
     sym
     (sym l.invariant.0 ∙ uses_at us ds few l.i c.loop-i-test.true
@@ -40,7 +39,7 @@ loop-i-preserved c =
     let fits : SFits w64 (get_or us l.i (pos 0)) = record { sfits = c.same_use-arg-1.given } in
     let e : level (get_or us l.i (pos 0)) (get_or ds l.i no_delta).0 ≡ true =
     sym (seen (λ (x : ℤ). level x (get_or ds l.i no_delta).0) (get_or us l.i (pos 0)) fits c.same_use.ensures)
-    ∙ not-false c.same_use.result c.if-not-same_use.false in
+    ∙ c.if-not-same_use.false in
     let few : length us ≤ length ds = omega arith in (
       ap (λ (k : ℕ). alike (drop k us) (drop k (take (length us) (deltas_in ds)))) (add-one l.i)
           ∙ sym

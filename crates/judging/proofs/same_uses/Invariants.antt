@@ -1,20 +1,10 @@
 -- `same_uses`: one use after the other; those that are still to be compared decide.
 -- Assumes nothing.
-use mathlib.Core.Bool.{Bool, true, false, ◌&&◌}
-use mathlib.Core.Path.{◌≡◌, refl, sym, ap, ◌∙◌}
-use Prim.Native.Nat.{ℕ, suc, ◌-◌, ◌≤◌}
-use native.Mathlib.Numerals.{add-one}
-use native.Mathlib.Omega.{arith}
-use borrow.Author.Tests.{not-true, not-false}
-use lib.IntN.{ℤ, pos}
-use lib.ListN.{length, get_or, take, drop}
-use mir.Syntax.{w64}
-use mir.Val.{SFits}
-use Rattle.exact.proofs.Integers.{seen}
-use Rattle.spread.proofs.Gathering.{no_delta}
-use Rattle.judging.specs.Judged.{level, alike}
+use mathlib.Core.Path.{◌≡◌}
+use Prim.Native.Nat.{◌-◌, ◌≤◌}
+use lib.ListN.{length, take, drop}
+use Rattle.judging.specs.Judged.{alike}
 use Rattle.spread.specs.code.Lent.{deltas_in}
-use Rattle.judging.proofs.Comparing.{uses_at, uses_end}
 use Rattle.judging.proofs.same_uses.Given as goal
 
 abbrev pub invariant-loop-i : goal.invariant-loop-i

@@ -1,7 +1,6 @@
 -- `verdict_of`: the definition's own tests, one after the other.
 -- Assumes nothing.
 use mathlib.Core.Path.{sym, ◌∙◌}
-use borrow.Author.Rules.{rules}
 use lib.IntN.{ℤ, pos}
 use lib.Signed.{lt_z}
 use Rattle.exact.proofs.Integers.{seen}

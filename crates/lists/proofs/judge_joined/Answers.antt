@@ -6,15 +6,10 @@ use borrow.Author.Rules.{rules}
 use Rattle.account.specs.Answers.{number_of}
 use Rattle.lists.proofs.ListLaws.{pair_refused, pair_stands, pair_accepted}
 use Rattle.lists.proofs.judge_joined.Goals as goal
-use Rattle.lists.proofs.judge_joined.Goals.{After-check_pair-checked, Else-number_of-ne0}
-
-abbrev checked-in : Else-number_of-ne0 → After-check_pair-checked
-checked-in c =
-    let after-check-pair = c.before.before.before in
-    after-check-pair
+use Rattle.lists.proofs.judge_joined.Goals.{Else-number_of-ne0}
 
 -- nothing is refused so far
-clear : (c : Else-number_of-ne0) → number_of (checked-in c).check-pair.result.verdict.answer ≡ 0
+clear : (c : Else-number_of-ne0) → number_of c.check_pair-checked.result.verdict.answer ≡ 0
 clear c = sym c.number_of.ensures ∙ omega (arith, c.if-number_of-ne0.false)
 
 pub returns-then-number_of-ne0 : goal.returns-then-number_of-ne0
@@ -26,17 +21,13 @@ returns-then-number_of-ne0 c =
 
 pub judge_over-judged-requires : goal.judge_over-judged-requires
 judge_over-judged-requires c =
-    let after-check-pair = checked-in (goal.at.judge_over-judged-requires c).Else-number_of-ne0 in
-    let start = after-check-pair.before.before.before in
-    let a = start.args in
-    let o = after-check-pair.check-pair in
+    let a = c.args in
+    let o = c.check_pair-checked in
     pair_stands a.question a.sent a.numbers.now a.uses.now a.morning.now a.noon.now o.result o.ensures (clear (goal.at.judge_over-judged-requires c).Else-number_of-ne0)
 
 pub returns : goal.returns
 returns c =
-    let after-check-pair = checked-in (goal.at.returns c).Else-number_of-ne0 in
-    let start = after-check-pair.before.before.before in
-    let a = start.args in
-    let o = after-check-pair.check-pair in
+    let a = c.args in
+    let o = c.check_pair-checked in
     pair_accepted a.question a.sent a.numbers.now a.uses.now a.morning.now a.noon.now o.result o.ensures (clear (goal.at.returns c).Else-number_of-ne0)
     c.judge_over-judged.result c.judge_over-judged.ensures

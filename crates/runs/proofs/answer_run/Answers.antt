@@ -96,11 +96,11 @@ loop-i-preserved c =
     let part : l.at + n - l.at ≡ n = omega arith in
     let account = ap (λ (k : ℕ). take k (drop l.at s.accounts.now)) part in
     let more : l.i + 1 ≡ suc l.i = omega arith in
-    subst⁻¹ (Going s.accounts.now s.lengths.now s.out.now s.outcomes.now f.new.1.1.0 o.new.1.1.0 (l.at + n)) more
+    subst⁻¹ (Going s.accounts.now s.lengths.now s.out.now s.outcomes.now f.new.out o.new.out (l.at + n)) more
     (go_on s.accounts.now s.lengths.now s.out.now s.outcomes.now
     (omega (arith, a)) (omega (arith, b))
     l.out l.outcomes l.at l.i l.invariant c.loop-i-test.true
-    f.result f.new.1.1.0 o.new.1.1.0
+    f.result f.new.out o.new.out
     (f.ensures.0 ∙ ap (λ (x : List ℕ). figures_answer x longest_figures) account)
     (f.ensures.1 ∙ ap (λ (x : List ℕ). at_place longest_figures (longest_figures * l.i) (after_figures x) l.out) account)
     o.ensures)

@@ -22,6 +22,6 @@ returns c =
     ap (λ (n : ℕ). length (take n (drop at out))) width ∙ length-take-le longest_figures (drop at out) (let p = c.requires in omega (arith, d, p))
     in (
       f.0 ∙ ap (figures_answer c.args.account.now) lent,
-      put-place longest_figures at out c.answer.new.1.1.0
+      put-place longest_figures at out c.answer.new.out
           (after_figures c.args.account.now) f.1,
     )

@@ -65,5 +65,5 @@ returns c =
     let e = c.if-lent-named-lt-RECORD_BYTES.false in
     let named : a.named ≤ length a.lent.now = omega (arith, l) in
     let h = room a.lent.now a.named a.ticket.now named o.result o.ensures (clear (goal.at.returns c).Else-number_of-ne0)
-    (omega (arith, e, named)) c.insert.new.0 c.insert.ensures in
+    (omega (arith, e, named)) c.insert.new.lent c.insert.ensures in
     (h.is, h.after)

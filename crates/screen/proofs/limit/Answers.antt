@@ -17,25 +17,19 @@ use Rattle.screen.specs.code.Held.{order_in}
 use Rattle.screen.specs.Screen.{held, weighed}
 use Rattle.screen.proofs.ScreenLaws.{below_zero, limit_lacking, limit_refused, limit_asked}
 use Rattle.screen.proofs.limit.Goals as goal
-use Rattle.screen.proofs.limit.Goals.{After-below, Else-below, Else-lent-named, Start}
-
-abbrev start_of : After-below → Start
-start_of c =
-    let start = c.before.before.before in
-    start
+use Rattle.screen.proofs.limit.Goals.{After-below, Else-below, Else-lent-named}
 
 -- the limit is tested as it is
-tested : (c : After-below) → c.below.result ≡ lt_z (start_of c).args.limit (pos 0)
+tested : (c : After-below) → c.below.result ≡ lt_z c.args.limit (pos 0)
 tested c =
-    let s = start_of c in
-    seen (λ x. lt_z x (pos 0)) s.args.limit s.fits.limit c.below.ensures
+    seen (λ x. lt_z x (pos 0)) c.args.limit c.ranges.limit c.below.ensures
 
 -- it is not below zero
-stands : (c : Else-below) → lt_z (start_of c.before.before).args.limit (pos 0) ≡ false
+stands : (c : Else-below) → lt_z c.args.limit (pos 0) ≡ false
 stands c = sym (tested c.before.before) ∙ c.if-below.false
 
 named-lent : (c : Else-lent-named) →
-    let a = (start_of (goal.at.slice_bounds-ask_order-end c).After-below).args in
+    let a = c.args in
     a.named ≤ length a.lent.now
 named-lent c =
     let l = c.if-lent-named.false in
@@ -43,22 +37,22 @@ named-lent c =
 
 pub returns-then-below : goal.returns-then-below
 returns-then-below c =
-    let a = (start_of (goal.at.returns-then-below c).After-below).args in
+    let a = c.args in
     sym (below_zero a.lent.now a.named a.ticket.now a.limit (sym (tested (goal.at.returns-then-below c).After-below) ∙ c.if-below.true))
 
 pub returns-then-lent-named : goal.returns-then-lent-named
 returns-then-lent-named c =
-    let a = (start_of (goal.at.returns-then-lent-named c).After-below).args in
+    let a = c.args in
     sym (limit_lacking a.lent.now a.named a.ticket.now a.limit (stands (goal.at.returns-then-lent-named c).Else-below) c.if-lent-named.true)
 
 pub slice_bounds-ask_order-end : goal.slice_bounds-ask_order-end
 slice_bounds-ask_order-end c =
-    let a = (start_of (goal.at.slice_bounds-ask_order-end c).After-shared_slice_known-2-1).args in
+    let a = c.args in
     sym (length-take-le a.named a.lent.now (named-lent c))
 
 pub returns-then-number_of-ne0 : goal.returns-then-number_of-ne0
 returns-then-number_of-ne0 c =
-    let a = (start_of (goal.at.returns-then-number_of-ne0 c).After-shared_slice_known-2-1).args in
+    let a = c.args in
     let o = c.ask_order-asked in
     limit_refused a.lent.now a.named a.ticket.now a.limit (stands (goal.at.returns-then-number_of-ne0 c).Else-below) (named-lent (goal.at.returns-then-number_of-ne0 c).Else-lent-named)
     o.result.answer o.ensures.answer_is
@@ -66,12 +60,11 @@ returns-then-number_of-ne0 c =
 
 pub returns : goal.returns
 returns c =
-    let s = start_of (goal.at.returns c).After-shared_slice_known-2-1 in
-    let a = s.args in
+    let a = c.args in
     let o = c.ask_order-asked in
     let z : number_of o.result.answer ≡ 0 = sym c.number_of.ensures
     ∙ omega (arith, c.if-number_of-ne0.false) in
     let fine : order_in (held a.lent.now a.named) a.ticket.now ≡ Accepted = sym o.ensures.answer_is ∙ accepted_only o.result.answer z in
     c.weigh.ensures
-    ∙ ap₂ weighed (seen nat_abs a.limit s.fits.limit c.magnitude.ensures) (o.ensures.total_is fine)
+    ∙ ap₂ weighed (seen nat_abs a.limit c.ranges.limit c.magnitude.ensures) (o.ensures.total_is fine)
     ∙ limit_asked a.lent.now a.named a.ticket.now a.limit (stands (goal.at.returns c).Else-below) (named-lent (goal.at.returns c).Else-lent-named) fine

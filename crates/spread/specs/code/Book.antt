@@ -12,7 +12,7 @@ use Rattle.spread.specs.declared.Table.{Table}
 use Rattle.spread.specs.declared.Prompts.{Prompts}
 use Rattle.spread.specs.declared.book.Book.{Book}
 use Rattle.spread.specs.declared.touches.Counted.{Counted}
-use Rattle.spread.specs.Touches.{touches, touches_of, most_touches}
+use Rattle.spread.specs.Touches.{touches_of, most_touches}
 
 -- the numbers formed and the deltas, of what is accepted; of what is refused there are none
 abbrev pub numbers_of : Prompts → Table → List ℕ

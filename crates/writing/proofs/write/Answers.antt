@@ -27,9 +27,6 @@ returns-then-entries-ne0 c =
 pub order_of-order-requires : goal.order_of-order-requires
 order_of-order-requires c = omega (arith, c.if-entries-gt-MOST_BYTES.false)
 
-pub slice_bounds-verdict_on-end : goal.slice_bounds-verdict_on-end
-slice_bounds-verdict_on-end c = sym c.order_of-order.ensures.long
-
 pub verdict_on-answer-requires : goal.verdict_on-answer-requires
 verdict_on-answer-requires c =
     let a = c.args in
@@ -51,16 +48,9 @@ returns-then-out-entries c =
     (ap number_of (sym v.ensures) ∙ sym c.number_of.ensures ∙ c.if-number_of-ne0.false)
     c.if-out-entries.true c.refused-then-out-entries.ensures
 
-pub slice_bounds-fill-end : goal.slice_bounds-fill-end
-slice_bounds-fill-end c =
-    sym c.order_of-order.ensures.long
-
 pub fill-requires : goal.fill-requires
 fill-requires c =
     (c.order_of-order.ensures, (omega arith, omega (arith, c.if-out-entries.false)))
-
-pub shape_of-out : goal.shape_of-out
-shape_of-out c = c.fill.auto.1.1.1.1.0
 
 pub returns : goal.returns
 returns c =

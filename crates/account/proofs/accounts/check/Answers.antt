@@ -1,6 +1,5 @@
 -- The length is refused, or the records are, or the rates answer.
 -- Assumes nothing.
-use borrow.Author.Rules.{rules}
 use Prim.Native.Nat.{ℕ}
 use mathlib.Core.Path.{◌≡◌, refl, sym, ap, ◌∙◌}
 use Rattle.account.specs.Answers.{number_of, refusal}
@@ -31,14 +30,14 @@ returns-then-noted-ne0 c =
     let whole = c.anew-whole in
     let n = c.note_records-noted in
     c.refusal.ensures
-    ∙ refused_there whole.result.now (refusal n.result.number n.result.next) n.ensures.0.answer_is
-    (λ z. c.if-noted-ne0.true (sym (n.ensures.1 c.if-noted-ne0.true) ∙ z))
+    ∙ refused_there whole.result.now (refusal n.result.number n.result.next) n.ensures.tallied.answer_is
+    (λ z. c.if-noted-ne0.true (sym (n.ensures.named c.if-noted-ne0.true) ∙ z))
     ∙ ap checked whole.ensures
 
 pub rates_answer-requires : goal.rates_answer-requires
 rates_answer-requires c =
     let n = c.note_records-noted in
-    tallied_accepted n.ensures.0 (ap (λ (x : ℕ). number_of (refusal x n.result.next)) c.if-noted-ne0.false)
+    tallied_accepted n.ensures.tallied (ap (λ (x : ℕ). number_of (refusal x n.result.next)) c.if-noted-ne0.false)
 
 pub returns : goal.returns
 returns c =

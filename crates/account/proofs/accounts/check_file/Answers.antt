@@ -1,6 +1,5 @@
 -- The check's answer, on the records and then on the rates, and the account by what is noted.
 -- Assumes nothing.
-use borrow.Author.Rules.{rules}
 use Prim.Native.Nat.{ℕ}
 use mathlib.Core.List.{List}
 use mathlib.Core.Path.{sym, ◌∙◌, subst}
@@ -9,22 +8,16 @@ use Rattle.account.specs.code.Surveyed.{Tallied}
 use Rattle.account.specs.declared.answers.Answer.TheVariants.{Accepted}
 use Rattle.account.proofs.Alone.{checked_refused, tallied_accepted, few_listed, checked_noted}
 use Rattle.account.proofs.accounts.check_file.Goals as goal
-use Rattle.account.proofs.accounts.check_file.Goals.{After-anew-whole, After-note_file-tally, Else-number_of-ne0}
+use Rattle.account.proofs.accounts.check_file.Goals.{Else-number_of-ne0}
 
 -- nothing is refused: what is noted, the file taken anew, and what they are to each other
 module _ (c : Else-number_of-ne0) where
-  abbrev noted : After-note_file-tally
-  noted = c.before.before.before.before.before
-
-  abbrev taken : After-anew-whole
-  taken = c.before.before.before.before.before.before.before.before
-
   abbrev file : List ℕ
   file = c.anew-whole.result.now
 
   tallied :
       let t = c.note_file-tally in
-      Tallied file Accepted t.result.contracts t.result.converts t.last.1.0 t.last.1.1.0
+      Tallied file Accepted t.result.contracts t.result.converts t.new.first t.new.counts
   tallied = tallied_accepted c.note_file-tally.ensures (sym c.number_of.ensures ∙ c.if-number_of-ne0.false)
 
 pub returns-then-number_of-ne0 : goal.returns-then-number_of-ne0
@@ -41,14 +34,14 @@ rates_answer-requires c = tallied (goal.at.rates_answer-requires c).Else-number_
 
 pub in_one_file-requires : goal.in_one_file-requires
 in_one_file-requires c =
-    let t = (noted (goal.at.in_one_file-requires c).Else-number_of-ne0).note-file in
-    few_listed (file (goal.at.in_one_file-requires c).Else-number_of-ne0) t.result.contracts t.last.1.0 t.last.1.1.0 (tallied (goal.at.in_one_file-requires c).Else-number_of-ne0)
+    let t = c.note_file-tally in
+    few_listed (file (goal.at.in_one_file-requires c).Else-number_of-ne0) t.result.contracts t.new.first t.new.counts (tallied (goal.at.in_one_file-requires c).Else-number_of-ne0)
 
 pub returns : goal.returns
 returns c =
-    let t = (noted (goal.at.returns c).Else-number_of-ne0).note-file in
+    let t = c.note_file-tally in
     subst (λ (bytes : List ℕ). CheckedBy bytes (record { answer = c.rates_answer.result; account = c.in_one_file.result }))
-    (taken (goal.at.returns c).Else-number_of-ne0).anew.ensures
-    (checked_noted (file (goal.at.returns c).Else-number_of-ne0) t.result.contracts t.last.1.0 t.last.1.1.0 (tallied (goal.at.returns c).Else-number_of-ne0)
+    c.anew-whole.ensures
+    (checked_noted (file (goal.at.returns c).Else-number_of-ne0) t.result.contracts t.new.first t.new.counts (tallied (goal.at.returns c).Else-number_of-ne0)
     c.record_count-records.result c.in_one_file.result c.record_count-records.ensures c.in_one_file.ensures
     c.rates_answer.result c.rates_answer.ensures)

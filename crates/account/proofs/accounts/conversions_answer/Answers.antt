@@ -1,5 +1,5 @@
 use borrow.Author.Rules.{rules}
-use Prim.Native.Nat.{ℕ, ◌+◌, ◌-◌, ◌≤◌}
+use Prim.Native.Nat.{ℕ, ◌+◌}
 use native.Mathlib.Omega.{arith}
 use mathlib.Core.Path.{◌≡◌, sym, ap, ap₂, subst, subst⁻¹, ◌∙◌}
 use mathlib.Core.List.{List}
@@ -7,7 +7,7 @@ use lib.ListN.{length}
 use Rattle.record.specs.Layout.{Record}
 use Rattle.account.specs.Accepted.{Each}
 use Rattle.account.specs.Answers.{number_of}
-use Rattle.account.specs.Checked.{first_rate_fault, rates_checked}
+use Rattle.account.specs.Checked.{first_rate_fault}
 use Rattle.account.specs.Conversions.{Row}
 use Rattle.account.specs.Parts.{rates_of}
 use Rattle.account.specs.code.Rates.{RatesOf}
@@ -21,62 +21,45 @@ use Rattle.account.proofs.RateLaws.{rows_known}
 use Rattle.account.proofs.Standing.{row_part_lem, rate_part_lem}
 use Rattle.account.proofs.Walk.{length_cut}
 use Rattle.account.proofs.accounts.conversions_answer.Goals as goal
-use Rattle.account.proofs.accounts.conversions_answer.Goals.{After-rates_of-t, After-record_count-k, After-rows_answer-answer, At-loop-c, In-loop-c, Start}
+use Rattle.account.proofs.accounts.conversions_answer.Goals.{After-rates_of-t, After-record_count-k, After-rows_answer-answer}
 
 -- with the rates read: the start, the account, and the table holds its rates
 module _ (c : After-rates_of-t) where
-  abbrev s : Start
-  s = (goal.at.before_rows-k-requires c).Start
-
   abbrev account : List Record
   account = account_of c.args.morning.now c.args.noon.now
 
   held : RatesOf (rates_of account) c.rates_of-t.result
   held = subst (λ (rs : List Record). RatesOf rs c.rates_of-t.result) (c.placed_part.ensures.are ∙ rate_part_lem account) c.rates_of-t.ensures
 
--- the rates, seen from the loop
-abbrev rated : At-loop-c → After-rates_of-t
-rated c = c.before.before
-
 -- the head of the turn, the account, and what the rows of the contract answer
 module _ (c : After-rows_answer-answer) where
-  abbrev head : In-loop-c
-  head = (goal.at.number_of-requires c).In-loop-c
-
   abbrev all : List Record
-  all = account (rated (goal.at.number_of-requires c).After-placed_part-rows)
+  all = account (goal.at.number_of-requires c).After-rates_of-t
 
   answered : c.rows_answer-answer.result ≡ first_rate_fault c.loop-c.k (rates_of all) (parts_of all (row_part + c.loop-c.c))
   answered =
-      let after-rates-of = rated (goal.at.number_of-requires c).After-placed_part-rows in
       let l = c.loop-c in
-      c.rows_answer-answer.ensures (rates_of all) (held after-rates-of) (s after-rates-of).pre.1.ranges.rates
+      c.rows_answer-answer.ensures (rates_of all) (held (goal.at.number_of-requires c).After-rates_of-t) c.requires.1.ranges.rates
       ∙ ap (first_rate_fault l.k (rates_of all)) (c.placed_part-rows.ensures.are ∙ row_part_lem l.c (omega (arith, c.loop-c-test.true)) all)
 
 -- how many rows the contract has, and that they stay within the account
 module _ (c : After-record_count-k) where
-  abbrev rows-answered : After-rows_answer-answer
-  rows-answered = (goal.at.overflow_add-k c).After-rows_answer-answer
-
-  abbrev turn : In-loop-c
-  turn = (goal.at.overflow_add-k c).In-loop-c
-
   abbrev morning : List Record
-  morning = records (s (rated (goal.at.overflow_add-k c).Else-number_of-ne0)).args.morning.now
+  morning = records c.args.morning.now
 
   abbrev noon : List Record
-  noon = records (s (rated (goal.at.overflow_add-k c).Else-number_of-ne0)).args.noon.now
+  noon = records c.args.noon.now
 
-  counted : c.record_count-k.result ≡ length (parts_of (all rows-answered) (row_part + c.loop-c.c))
+  counted : c.record_count-k.result ≡ length (parts_of (all (goal.at.overflow_add-k c).After-rows_answer-answer) (row_part + c.loop-c.c))
   counted =
       let rows = c.placed_part-rows in
       c.record_count-k.ensures ∙ sym (length_cut (record_count rows.result.now) rows.result.now)
-      ∙ ap length (rows.ensures.are ∙ row_part_lem c.loop-c.c (omega (arith, c.loop-c-test.true)) (all rows-answered))
+      ∙ ap length (rows.ensures.are ∙ row_part_lem c.loop-c.c (omega (arith, c.loop-c-test.true)) (all (goal.at.overflow_add-k c).After-rows_answer-answer))
 
   next : c.loop-c.k + c.record_count-k.result ≡ rows_before morning noon (c.loop-c.c + 1)
   next =
       let l = c.loop-c in
-      ap₂ ◌+◌ l.inv.1.0 counted ∙ sym (before_next morning noon l.c)
+      ap₂ ◌+◌ l.invariant.1.0 counted ∙ sym (before_next morning noon l.c)
 
 pub placed_part-requires : goal.placed_part-requires
 placed_part-requires c = c.requires.0
@@ -87,10 +70,9 @@ before_rows-k-requires c =
 
 pub loop-c-init : goal.loop-c-init
 loop-c-init c =
-    let start = s (goal.at.loop-c-init c).After-rates_of-t in
-    let m = records start.args.morning.now in
-    let n = records start.args.noon.now in
-    let k = c.before_rows-k.ensures ∙ before_counted m n start.args.account.counts start.pre.0.sizes start.pre.0.counts in
+    let m = records c.args.morning.now in
+    let n = records c.args.noon.now in
+    let k = c.before_rows-k.ensures ∙ before_counted m n c.args.account.counts c.requires.0.sizes c.requires.0.counts in
     (turn_start m n ∙ ap (λ (x : ℕ). rows_on_from m n x 0) (sym k), (k, omega arith))
 
 pub placed_part-rows-requires : goal.placed_part-rows-requires
@@ -99,16 +81,14 @@ placed_part-rows-requires c =
 
 pub rows_answer-answer-requires : goal.rows_answer-answer-requires
 rows_answer-answer-requires c =
-    let after-rates-of = rated (goal.at.rows_answer-answer-requires c).At-loop-c in
-    let start = s after-rates-of in
-    let a = account after-rates-of in
+    let a = account (goal.at.rows_answer-answer-requires c).After-rates_of-t in
     let l = c.loop-c in
-    let few = before_few (records start.args.morning.now) (records start.args.noon.now) l.c l.invariant.1.1 in
+    let few = before_few (records c.args.morning.now) (records c.args.noon.now) l.c l.invariant.1.1 in
     let h = c.loop-c-test.true in (
-      subst⁻¹ (Each Row) (c.placed_part-rows.ensures.are ∙ row_part_lem l.c (omega arith) a) (rows_known a start.pre.1 l.c (omega arith)),
+      subst⁻¹ (Each Row) (c.placed_part-rows.ensures.are ∙ row_part_lem l.c (omega arith) a) (rows_known a c.requires.1 l.c (omega arith)),
       (
-        record { rates = rates_of a; held = held after-rates-of; within = start.pre.1.ranges.rates },
-        omega (arith, l.invariant.1.0, few, start.pre.1.limits.all),
+        record { rates = rates_of a; held = held (goal.at.rows_answer-answer-requires c).After-rates_of-t; within = c.requires.1.ranges.rates },
+        omega (arith, l.invariant.1.0, few, c.requires.1.limits.all),
       ),
     )
 
@@ -117,36 +97,33 @@ number_of-requires c = search rules
 
 pub returns-then-number_of-ne0 : goal.returns-then-number_of-ne0
 returns-then-number_of-ne0 c =
-    let turn = head (goal.at.returns-then-number_of-ne0 c).After-rows_answer-answer in
-    let start = s (rated turn.before) in
-    let l = turn.before.loop in
+    let l = c.loop-c in
     let a = answered (goal.at.returns-then-number_of-ne0 c).After-rows_answer-answer in
     a
-    ∙ sym (l.inv.0
-    ∙ turn_stop (records start.args.morning.now) (records start.args.noon.now) l.k l.c turn.loop-test.taken
+    ∙ sym (l.invariant.0
+    ∙ turn_stop (records c.args.morning.now) (records c.args.noon.now) l.k l.c c.loop-c-test.true
     (λ z. c.if-number_of-ne0.true (c.number_of.ensures ∙ ap number_of a ∙ z)))
 
 pub overflow_add-k : goal.overflow_add-k
 overflow_add-k c =
-    let start = s (rated (turn c).before) in
     omega (
       arith,
       next c,
-      before_few (morning c) (noon c) ((turn c).before.loop.c + 1) (omega (arith, (turn c).loop-test.true)),
-      start.pre.1.limits.all,
+      before_few (morning c) (noon c) (c.loop-c.c + 1) (omega (arith, c.loop-c-test.true)),
+      c.requires.1.limits.all,
     )
 
 pub loop-c-smaller : goal.loop-c-smaller
-loop-c-smaller c = omega (arith, (turn c).loop-test.true)
+loop-c-smaller c = omega (arith, c.loop-c-test.true)
 
 pub loop-c-preserved : goal.loop-c-preserved
 loop-c-preserved c =
-    let l = (turn c).before.loop in
+    let l = c.loop-c in
     let m = morning c in
     let n = noon c in
-    let h = (turn c).loop-test.true in
-    let a = answered (rows-answered c) in (
-      l.inv.0
+    let h = c.loop-c-test.true in
+    let a = answered (goal.at.loop-c-preserved c).After-rows_answer-answer in (
+      l.invariant.0
           ∙ turn_next m n l.k l.c h (sym (c.number_of.ensures ∙ ap number_of a) ∙ omega (arith, c.if-number_of-ne0.false))
           ∙ ap (λ (x : ℕ). rows_on_from m n (l.k + x) (l.c + 1)) (sym (counted c)),
       (next c, omega (arith, h)),
@@ -154,9 +131,8 @@ loop-c-preserved c =
 
 pub returns : goal.returns
 returns c =
-    let start = s (rated (goal.at.returns c).At-loop-c) in
     let l = c.loop-c in
-    let m = records start.args.morning.now in
-    let n = records start.args.noon.now in
+    let m = records c.args.morning.now in
+    let n = records c.args.noon.now in
     let e : l.c ≡ most_contracts = omega (arith, c.loop-c-test.false, l.invariant.1.1) in
     sym (l.invariant.0 ∙ ap (rows_on_from m n l.k) e ∙ turn_end m n l.k)

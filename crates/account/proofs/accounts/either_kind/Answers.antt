@@ -1,8 +1,6 @@
 use mathlib.Core.Path.{◌≡◌, subst}
-use mathlib.Core.List.{List}
-use Prim.Native.Nat.{ℕ, ◌+◌, ◌-◌, ◌≤◌}
+use Prim.Native.Nat.{ℕ, ◌+◌}
 use native.Mathlib.Omega.{arith}
-use borrow.Author.Rules.{rules}
 use Rattle.account.specs.Check.{most_contracts}
 use Rattle.account.specs.code.Standing.{EitherTo}
 use Rattle.account.proofs.Filled.{either_next}

@@ -1,13 +1,9 @@
 -- The notes of one kind are put in place one after the other.
 -- Assumes nothing.
-use mathlib.Core.Path.{◌≡◌, subst}
 use mathlib.Core.List.{List}
 use Prim.Native.Nat.{ℕ, ◌+◌, ◌-◌, ◌≤◌}
-use native.Mathlib.Omega.{arith}
-use borrow.Author.Rules.{rules}
 use Rattle.account.specs.Check.{most_contracts}
 use Rattle.account.specs.code.Standing.{EitherTo}
-use Rattle.account.proofs.Filled.{either_next}
 use Rattle.account.proofs.accounts.either_kind.Given as goal
 
 abbrev pub invariant-loop-c : goal.invariant-loop-c

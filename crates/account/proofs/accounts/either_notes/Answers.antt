@@ -1,8 +1,7 @@
 use mathlib.Core.Path.{◌≡◌, refl, subst}
-use Prim.Native.Nat.{ℕ, ◌-◌, ◌%◌, ◌≤◌}
+use Prim.Native.Nat.{ℕ}
 use native.Mathlib.Nat.{not-suc-le-zero}
 use native.Mathlib.Omega.{arith}
-use Rattle.account.specs.Check.{most_contracts}
 use Rattle.account.specs.PartNumbers.{entry_part}
 use Rattle.account.specs.code.Standing.{EitherTo}
 use Rattle.account.proofs.accounts.either_notes.Goals as goal

@@ -1,9 +1,7 @@
 -- The notes are put in place kind by kind.
 -- Assumes nothing.
-use mathlib.Core.Path.{◌≡◌, refl, subst}
-use Prim.Native.Nat.{ℕ, ◌-◌, ◌%◌, ◌≤◌}
-use native.Mathlib.Nat.{not-suc-le-zero}
-use native.Mathlib.Omega.{arith}
+use mathlib.Core.Path.{◌≡◌}
+use Prim.Native.Nat.{◌-◌, ◌%◌, ◌≤◌}
 use Rattle.account.specs.Check.{most_contracts}
 use Rattle.account.specs.PartNumbers.{entry_part}
 use Rattle.account.specs.code.Standing.{EitherTo}

@@ -1,15 +1,11 @@
 -- The contracts are tested one after the other.
 -- Assumes nothing.
-use borrow.Author.Rules.{rules}
-use mathlib.Core.Path.{◌≡◌, refl, ◌∙◌}
+use mathlib.Core.Path.{◌≡◌}
 use mathlib.Core.Bool.{false}
 use Prim.Native.Nat.{ℕ, ◌-◌, ◌≤◌, ◌<◌}
-use native.Mathlib.Nat.{not-suc-le-zero}
-use native.Mathlib.Omega.{arith}
-use lib.ListN.{length, get_or, length-set}
+use lib.ListN.{length, get_or}
 use Rattle.account.specs.code.Standing.{lists}
 use Rattle.account.specs.Check.{most_contracts}
-use Rattle.account.proofs.Filled.{filled_next}
 use Rattle.account.proofs.accounts.flags.Given as goal
 
 abbrev pub invariant-loop-c : goal.invariant-loop-c

@@ -1,6 +1,5 @@
 -- At most as many contracts as there are numbers; the flags are those of the noon file.
 -- Assumes nothing.
-use borrow.Author.Rules.{rules}
 use Rattle.account.specs.Check.{most_contracts}
 use Rattle.account.specs.code.Standing.{lists}
 use Rattle.account.proofs.Filled.{either_all, kept_few}

@@ -1,6 +1,5 @@
 -- A contract of which there is a record of its own is listed.
 -- Assumes nothing.
-use borrow.Author.Rules.{rules}
 use Rattle.account.proofs.accounts.lists.Goals as goal
 
 pub returns : goal.returns

@@ -1,13 +1,11 @@
-use Prim.Native.Nat.{ℕ, ◌+◌, ◌-◌, ◌≤◌, ◌<◌}
-use mathlib.Core.Path.{◌≡◌, refl, sym, ap, ap₂, ◌∙◌}
+use Prim.Native.Nat.{ℕ, ◌+◌, ◌-◌, ◌<◌}
+use mathlib.Core.Path.{refl, sym, ap, ap₂, ◌∙◌}
 use native.Mathlib.Omega.{arith}
 use lib.Dec.{ltb}
 use lib.ListN.{length, take, drop, replicate}
 use lib.Seq.{length-take-le}
 use borrow.Author.Tests.{ltb-true}
-use Rattle.exact.specs.Lists.{keep}
 use Rattle.exact.proofs.Tests.{one_at_most}
-use Rattle.record.specs.Bytes.{count_from}
 use Rattle.record.proofs.Within.{both_true}
 use Rattle.account.specs.code.Standing.{lists}
 use Rattle.account.specs.Check.{most_contracts}
@@ -72,10 +70,10 @@ loop-count-preserved c =
         (
           omega (arith, h),
           (
-            ap (λ (k : ℕ). take (l.count + k) u.new.0) o ∙ numbers_next p l.c l.count l.number u.new.0 b.result b.ensures n
+            ap (λ (k : ℕ). take (l.count + k) u.new.number) o ∙ numbers_next p l.c l.count l.number u.new.number b.result b.ensures n
                 u.ensures l.invariant.1.1.1.0,
-            ap₂ (λ (k i : ℕ). drop (l.count + k) u.new.0) o o ∙ left_after p l.c l.count l.number
-                u.new.0 b.result b.ensures n u.ensures most_contracts l.invariant.0 l.invariant.1.1.1.1
+            ap₂ (λ (k i : ℕ). drop (l.count + k) u.new.number) o o ∙ left_after p l.c l.count l.number
+                u.new.number b.result b.ensures n u.ensures most_contracts l.invariant.0 l.invariant.1.1.1.1
                 ∙ ap (λ (k : ℕ). replicate (most_contracts - (l.count + k)) 0)
                 (sym o),
           ),

@@ -3,7 +3,6 @@
 use mathlib.Core.Path.{refl, ap, ◌∙◌}
 use native.Mathlib.Omega.{arith}
 use lib.ListN.{get_or}
-use borrow.Author.Rules.{rules}
 use Rattle.account.specs.Records.{stretch}
 use Rattle.account.specs.Joined.{account_of}
 use Rattle.account.proofs.Standing.{part_past, part_stands}

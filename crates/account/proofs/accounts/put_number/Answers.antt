@@ -3,7 +3,6 @@
 use mathlib.Core.Path.{sym, ap}
 use mathlib.Core.Bool.{Bool, cond}
 use lib.ListN.{set}
-use borrow.Author.Rules.{rules}
 use Rattle.account.proofs.accounts.put_number.Goals as goal
 
 pub returns-then-listed : goal.returns-then-listed

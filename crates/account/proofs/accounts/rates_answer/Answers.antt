@@ -1,6 +1,5 @@
 -- The file's own account where a row is in another currency: no noon file supplies anything.
 -- Assumes nothing.
-use borrow.Author.Rules.{rules}
 use mathlib.Core.Path.{refl, ◌∙◌}
 use Rattle.account.proofs.Alone.{few_listed, no_rates_asked, rated_alone, rates_alone}
 use Rattle.account.proofs.accounts.rates_answer.Goals as goal

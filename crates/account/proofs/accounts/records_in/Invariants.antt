@@ -1,13 +1,9 @@
 -- The counts are added one after the other.
 -- Assumes nothing.
-use borrow.Author.Rules.{rules}
-use mathlib.Core.Path.{◌≡◌, refl, sym, ap, ◌∙◌}
-use Prim.Native.Nat.{ℕ, suc, ◌+◌, ◌-◌, ◌*◌, ◌≤◌}
-use native.Mathlib.Omega.{arith}
+use mathlib.Core.Path.{◌≡◌}
+use Prim.Native.Nat.{◌-◌, ◌*◌, ◌≤◌}
 use lib.ListN.{length, take}
-use lib.Seq.{take_all}
 use Rattle.exact.specs.Lists.{sum}
-use Rattle.account.proofs.Filled.{sum_next}
 use Rattle.account.proofs.accounts.records_in.Given as goal
 
 abbrev pub invariant-loop-v : goal.invariant-loop-v

@@ -1,7 +1,6 @@
 -- A contract's rows: the stretch that its whereabouts tell.
 -- Assumes nothing.
 use native.Mathlib.Omega.{arith}
-use borrow.Author.Rules.{rules}
 use Rattle.account.proofs.Standing.{part_where}
 use Rattle.account.proofs.accounts.rows_part.Goals as goal
 

@@ -1,6 +1,5 @@
 -- `account::check::go_on` meets its contract. Assumes nothing.
 use mathlib.Core.Path.{sym, ◌∙◌}
-use borrow.Author.Rules.{rules}
 use native.Mathlib.Omega.{arith}
 use Rattle.account.proofs.Runs.{step_runs, step_stops, step_alone}
 use Rattle.account.proofs.check.go_on.Goals as goal

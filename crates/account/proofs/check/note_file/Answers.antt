@@ -1,6 +1,5 @@
 -- The length refuses the file, or the records answer.
 -- Assumes nothing.
-use borrow.Author.Rules.{rules}
 use Prim.Native.Nat.{ℕ}
 use mathlib.Core.Path.{◌≡◌, sym, ap, ◌∙◌}
 use Rattle.account.specs.Answers.{number_of, refusal}
@@ -29,7 +28,7 @@ note_records-noted-requires c =
 pub returns-then-noted-eq0 : goal.returns-then-noted-eq0
 returns-then-noted-eq0 c =
     let n = c.note_records-noted in
-    tallied_as (whole (goal.at.returns-then-noted-eq0 c).Else-number_of-ne0 ∙ ap (λ (x : ℕ). refusal x n.result.next) (sym c.if-noted-eq0.true)) n.ensures.0
+    tallied_as (whole (goal.at.returns-then-noted-eq0 c).Else-number_of-ne0 ∙ ap (λ (x : ℕ). refusal x n.result.next) (sym c.if-noted-eq0.true)) n.ensures.tallied
 
 pub returns : goal.returns
 returns c =

@@ -1,5 +1,4 @@
 -- `account::check::note_first` meets its contract. Assumes nothing.
-use borrow.Author.Rules.{rules}
 use mathlib.Core.Path.{sym, ◌∙◌}
 use borrow.Author.Tests.{eq-eqb, ne_eqb}
 use Rattle.account.proofs.check.note_first.Goals as goal

@@ -1,5 +1,4 @@
-use borrow.Author.Rules.{rules}
-use Prim.Native.Nat.{ℕ, ◌-◌, ◌≤◌, ◌<◌}
+use Prim.Native.Nat.{ℕ, ◌≤◌, ◌<◌}
 use mathlib.Core.Path.{refl, ap, subst⁻¹, ◌∙◌}
 use mathlib.Core.List.{List}
 use native.Mathlib.Omega.{arith}
@@ -11,7 +10,7 @@ use Rattle.account.specs.Check.{most_records}
 use Rattle.account.specs.Conversions.{other_row}
 use Rattle.account.specs.Parts.{of_kind}
 use Rattle.account.specs.Records.{record_at, record_count}
-use Rattle.account.proofs.Going.{Going, going_start, going_stops, owned_small, notable, going_over, Met, met_start, met_over, going_tallied}
+use Rattle.account.proofs.Going.{Going, going_start, going_stops, owned_small, notable, going_over, met_start, met_over, going_tallied}
 use Rattle.account.proofs.Verdict.{length-fine, fault_named}
 use Rattle.account.proofs.check.note_records.Goals as goal
 

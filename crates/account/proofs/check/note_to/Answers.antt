@@ -2,7 +2,6 @@
 use Prim.Native.Nat.{ℕ, ◌+◌, ◌≤◌, ◌<◌}
 use mathlib.Core.Path.{◌≡◌, ap, ◌∙◌}
 use mathlib.Core.List.{List}
-use borrow.Author.Rules.{rules}
 use lib.ListN.{length, get_or, length-set}
 use lib.Seq.{get_or-set_same}
 use native.Mathlib.Omega.{arith}
@@ -41,12 +40,12 @@ note_more-requires c =
     ∙ ap part_of c.whole_at.ensures in
     let e = ap (λ (u : ℕ). get_or counts u 0) is in
     let one = c.note_one in
-    let long : length one.new.0 ≡ length counts = ap length one.ensures ∙ length-set counts v (get_or counts v 0 + 1) in
-    let here : get_or one.new.0 v 0 ≡ get_or counts v 0 + 1 =
+    let long : length one.new.counts ≡ length counts = ap length one.ensures ∙ length-set counts v (get_or counts v 0 + 1) in
+    let here : get_or one.new.counts v 0 ≡ get_or counts v 0 + 1 =
     ap (λ (l : List ℕ). get_or l v 0) one.ensures
     ∙ get_or-set_same counts v (get_or counts v 0 + 1) 0 (omega (arith, pre.known none, pre.sizes)) in
-    let inside : v < length one.new.0 = omega (arith, pre.known none, pre.sizes) in
-    let few : get_or one.new.0 v 0 ≤ most_records = omega (arith, pre.room none, pre.inside, pre.few) in
+    let inside : v < length one.new.counts = omega (arith, pre.known none, pre.sizes) in
+    let few : get_or one.new.counts v 0 ≤ most_records = omega (arith, pre.room none, pre.inside, pre.few) in
     (inside, (few, omega (arith, c.requires.1.1.1, pre.few)))
 
 pub returns : goal.returns

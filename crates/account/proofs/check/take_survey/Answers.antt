@@ -1,6 +1,5 @@
 -- A refused file has nothing to hand out; of an accepted one the notes are handed out.
 -- Assumes nothing.
-use borrow.Author.Rules.{rules}
 use mathlib.Core.Path.{sym, ◌∙◌}
 use Rattle.account.proofs.Going.{nothing}
 use Rattle.account.proofs.check.take_survey.Goals as goal

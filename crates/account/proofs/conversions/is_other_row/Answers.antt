@@ -1,6 +1,5 @@
 -- A row, and in another currency.
 -- Assumes nothing.
-use borrow.Author.Rules.{rules}
 use Rattle.account.proofs.conversions.is_other_row.Goals as goal
 
 pub returns : goal.returns

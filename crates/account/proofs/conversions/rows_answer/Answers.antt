@@ -1,18 +1,11 @@
-use borrow.Author.Rules.{rules}
-use Prim.Native.Nat.{◌+◌, ◌-◌, ◌≤◌}
+use Prim.Native.Nat.{◌+◌}
 use native.Mathlib.Omega.{arith}
 use mathlib.Core.Path.{◌≡◌, sym, ap, ◌∙◌, subst⁻¹}
-use mathlib.Core.List.{List}
-use Rattle.record.specs.Layout.{Record}
-use Rattle.record.specs.Within.{RateWithin}
-use Rattle.account.specs.Accepted.{Each}
 use Rattle.account.specs.Answers.{number_of}
-use Rattle.account.specs.Checked.{first_rate_fault}
 use Rattle.account.specs.Conversions.{row_answer, Row}
-use Rattle.account.specs.code.Rates.{RatesOf}
 use Rattle.account.specs.Records.{records, record_at, record_count}
 use Rattle.account.proofs.Orders.{every_at, cut_at}
-use Rattle.account.proofs.RateLaws.{rows_from, rows_start, rows_next, rows_stop, rows_end}
+use Rattle.account.proofs.RateLaws.{rows_start, rows_next, rows_stop, rows_end}
 use Rattle.account.proofs.Walk.{length_cut}
 use Rattle.account.proofs.conversions.rows_answer.Goals as goal
 
@@ -40,7 +33,7 @@ row_answer-answer-requires c =
     )
 
 pub returns-then-number_of-ne0 : goal.returns-then-number_of-ne0
-returns-then-number_of-ne0 c =
+returns-then-number_of-ne0 c rates of each =
     let l = c.loop-i in
     let rows = c.args.rows.now in
     let k = c.args.k + l.i in
@@ -77,7 +70,7 @@ loop-i-preserved c =
     )
 
 pub returns : goal.returns
-returns c =
+returns c rates of each =
     let l = c.loop-i in
     sym (l.invariant.0 rates of each ∙ rows_end rates c.args.k c.args.rows.now l.i
     (omega (arith, c.loop-i-test.false, c.record_count-count.ensures)))

@@ -1,21 +1,15 @@
 -- Row after row, until one has a fault.
 -- Assumes nothing.
-use borrow.Author.Rules.{rules}
-use Prim.Native.Nat.{◌+◌, ◌-◌, ◌≤◌}
-use native.Mathlib.Omega.{arith}
-use mathlib.Core.Path.{◌≡◌, sym, ap, ◌∙◌, subst⁻¹}
+use Prim.Native.Nat.{◌-◌, ◌≤◌}
+use mathlib.Core.Path.{◌≡◌}
 use mathlib.Core.List.{List}
 use Rattle.record.specs.Layout.{Record}
 use Rattle.record.specs.Within.{RateWithin}
 use Rattle.account.specs.Accepted.{Each}
-use Rattle.account.specs.Answers.{number_of}
 use Rattle.account.specs.Checked.{first_rate_fault}
-use Rattle.account.specs.Conversions.{row_answer, Row}
 use Rattle.account.specs.code.Rates.{RatesOf}
-use Rattle.account.specs.Records.{records, record_at, record_count}
-use Rattle.account.proofs.Orders.{every_at, cut_at}
-use Rattle.account.proofs.RateLaws.{rows_from, rows_start, rows_next, rows_stop, rows_end}
-use Rattle.account.proofs.Walk.{length_cut}
+use Rattle.account.specs.Records.{records, record_count}
+use Rattle.account.proofs.RateLaws.{rows_from}
 use Rattle.account.proofs.conversions.rows_answer.Given as goal
 
 abbrev pub invariant-loop-i : goal.invariant-loop-i

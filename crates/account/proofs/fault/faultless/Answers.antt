@@ -1,6 +1,5 @@
 -- All seven refusals tested, and none holds.
 -- Assumes nothing.
-use borrow.Author.Rules.{rules}
 use Rattle.record.specs.Ranges.{unknown_kind, unused_byte, field_outside}
 use Rattle.account.specs.Check.{kind_falls, out_of_order}
 use Rattle.account.specs.code.Notes.{unlisted_by, over_limit_by}

@@ -1,7 +1,6 @@
 -- The number noted in its place, 0 past the last.
 -- Assumes nothing.
 use native.Mathlib.Omega.{arith}
-use borrow.Author.Rules.{rules}
 use mathlib.Core.Path.{sym, ◌∙◌}
 use Rattle.account.specs.Check.{most_contracts}
 use Rattle.account.specs.code.Lent.{numbers_note}

@@ -1,10 +1,10 @@
-use Prim.Native.Nat.{ℕ, ◌-◌, ◌≤◌, ◌<◌}
+use Prim.Native.Nat.{ℕ}
 use native.Mathlib.Omega.{arith}
 use mathlib.Core.Path.{◌≡◌, refl, sym, ◌∙◌}
 use mathlib.Core.Bool.{false}
 use Rattle.exact.specs.Lists.{one_if}
 use mathlib.Core.List.{map}
-use lib.ListN.{length, get_or, length-set, length-map, get_or-map}
+use lib.ListN.{get_or, length-set, length-map, get_or-map}
 use lib.Seq.{ext_get_or}
 use Rattle.account.specs.Check.{most_contracts}
 use Rattle.account.proofs.Filled.{filled_next}

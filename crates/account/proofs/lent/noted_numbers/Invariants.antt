@@ -1,12 +1,9 @@
 -- Each number in its place.
 -- Assumes nothing.
 use Prim.Native.Nat.{ℕ, ◌-◌, ◌≤◌, ◌<◌}
-use native.Mathlib.Omega.{arith}
-use mathlib.Core.Path.{◌≡◌, refl, sym, ◌∙◌}
-use lib.ListN.{length, get_or, length-set}
-use lib.Seq.{ext_get_or}
+use mathlib.Core.Path.{◌≡◌}
+use lib.ListN.{length, get_or}
 use Rattle.account.specs.Check.{most_contracts}
-use Rattle.account.proofs.Filled.{filled_next}
 use Rattle.account.proofs.lent.noted_numbers.Given as goal
 
 abbrev pub invariant-loop-i : goal.invariant-loop-i

@@ -1,7 +1,6 @@
 -- The count noted in its place, 0 past the last.
 -- Assumes nothing.
 use native.Mathlib.Omega.{arith}
-use borrow.Author.Rules.{rules}
 use mathlib.Core.Path.{sym, ◌∙◌}
 use Rattle.account.specs.PartNumbers.{parts}
 use Rattle.account.specs.code.Lent.{counts_note}

@@ -1,11 +1,9 @@
 -- Numbers put one after the other: what stands before them stays.
 -- Assumes nothing.
-use Prim.Native.Nat.{ℕ, suc, ◌+◌, ◌-◌, ◌≤◌}
-use native.Mathlib.Omega.{arith}
-use mathlib.Core.Path.{◌≡◌, refl, ap, ◌∙◌}
-use mathlib.Core.List.{List, ◌++◌}
-use lib.ListN.{length, get_or, set, take, length-set}
-use lib.Seq.{paste, paste-zero, paste-suc, take-paste, take-length}
+use Prim.Native.Nat.{◌-◌, ◌≤◌}
+use mathlib.Core.Path.{◌≡◌}
+use lib.ListN.{length}
+use lib.Seq.{paste}
 use Rattle.account.proofs.lent.put_at.Given as goal
 
 abbrev pub invariant-loop-i : goal.invariant-loop-i

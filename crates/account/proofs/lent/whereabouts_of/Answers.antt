@@ -4,7 +4,6 @@ use native.Mathlib.Omega.{arith}
 use mathlib.Core.Path.{sym}
 use Rattle.account.specs.PartNumbers.{part}
 use Rattle.account.proofs.LentLaws.{read_late, read_first, read_count}
-use borrow.Author.Rules.{rules}
 use Rattle.account.proofs.lent.whereabouts_of.Goals as goal
 
 pub returns : goal.returns

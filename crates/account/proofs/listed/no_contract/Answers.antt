@@ -1,5 +1,4 @@
 -- `account::listed::no_contract` meets its contract. Assumes nothing.
-use borrow.Author.Rules.{rules}
 use Rattle.account.proofs.listed.no_contract.Goals as goal
 
 pub returns : goal.returns

@@ -1,5 +1,4 @@
 -- `account::listed::unlisted` meets its contract. Assumes nothing.
-use borrow.Author.Rules.{rules}
 use mathlib.Core.Path.{sym, ap, ◌∙◌}
 use Rattle.record.proofs.Tests.{both}
 use Rattle.account.specs.code.Notes.{no_contract, no_day}

@@ -1,6 +1,5 @@
 -- Both files are checked, and joined by what the check hands out.
 -- Assumes nothing.
-use borrow.Author.Rules.{rules}
 use Rattle.account.proofs.NoonLaws.{checked_by}
 use Rattle.account.proofs.noon.check_pair.Goals as goal
 

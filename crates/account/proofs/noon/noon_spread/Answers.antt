@@ -1,6 +1,5 @@
 -- The notes of kind 5, else those of kind 6.
 -- Assumes nothing.
-use borrow.Author.Rules.{rules}
 use borrow.Author.Tests.{ne_eqb, eq-eqb}
 use native.Mathlib.Omega.{arith}
 use lib.ListN.{get_or}

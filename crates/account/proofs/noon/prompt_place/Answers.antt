@@ -2,19 +2,13 @@
 -- Assumes nothing.
 use mathlib.Core.Path.{◌≡◌, sym, ◌∙◌}
 use native.Mathlib.Omega.{arith}
-use borrow.Author.Rules.{rules}
 use Rattle.account.specs.Answers.{number_of}
 use Rattle.account.proofs.NoonLaws.{Joining, place_refused, place-beyond, place_noon, place_morning, place-nowhere}
 use Rattle.account.proofs.noon.prompt_place.Goals as goal
-use Rattle.account.proofs.noon.prompt_place.Goals.{After-pair_verdict-verdict, Else-contract-ge-CONTRACTS, Start}
-
-abbrev start_of : After-pair_verdict-verdict → Start
-start_of c =
-    let start = c.before.before.before.before.before.before in
-    start
+use Rattle.account.proofs.noon.prompt_place.Goals.{After-pair_verdict-verdict, Else-contract-ge-CONTRACTS}
 
 -- both files checked and joined, with the verdict
-abbrev known : (c : After-pair_verdict-verdict) → Joining (start_of c).args.morning.now (start_of c).args.noon.now
+abbrev known : (c : After-pair_verdict-verdict) → Joining c.args.morning.now c.args.noon.now
 known c =
     let m = c.take_survey-first in
     let n = c.take_survey-second in
@@ -30,13 +24,8 @@ known c =
       verdict_is = c.pair_verdict-verdict.ensures;
     }
 
-abbrev judged : Else-contract-ge-CONTRACTS → After-pair_verdict-verdict
-judged c =
-    let after-pair-verdict = c.before.before.before in
-    after-pair-verdict
-
 -- nothing is refused, and the number is a contract's
-clear : (c : Else-contract-ge-CONTRACTS) → number_of (judged c).pair-verdict.result.answer ≡ 0
+clear : (c : Else-contract-ge-CONTRACTS) → number_of c.pair_verdict-verdict.result.answer ≡ 0
 clear c = sym c.number_of.ensures ∙ omega (arith, c.if-number_of-ne0.false)
 
 pub pair_verdict-verdict-requires : goal.pair_verdict-verdict-requires
@@ -44,34 +33,31 @@ pair_verdict-verdict-requires c = (c.take_survey-first.ensures, (c.take_survey-s
 
 pub returns-then-number_of-ne0 : goal.returns-then-number_of-ne0
 returns-then-number_of-ne0 c =
-    let s = (start_of (goal.at.returns-then-number_of-ne0 c).After-pair_verdict-verdict).args in
+    let s = c.args in
     c.nowhere.ensures
     ∙ sym (place_refused s.morning.now s.noon.now (known (goal.at.returns-then-number_of-ne0 c).After-pair_verdict-verdict) s.contract (λ z. c.if-number_of-ne0.true (c.number_of.ensures ∙ z)))
 
 pub returns-then-contract-ge-CONTRACTS : goal.returns-then-contract-ge-CONTRACTS
 returns-then-contract-ge-CONTRACTS c =
-    let s = (start_of (goal.at.returns-then-contract-ge-CONTRACTS c).After-pair_verdict-verdict).args in
+    let s = c.args in
     c.nowhere-then-contract-ge-CONTRACTS.ensures ∙ sym (place-beyond s.morning.now s.noon.now (known (goal.at.returns-then-contract-ge-CONTRACTS c).After-pair_verdict-verdict) s.contract c.if-contract-ge-CONTRACTS.true)
 
 pub returns-then-second-contract-ne0 : goal.returns-then-second-contract-ne0
 returns-then-second-contract-ne0 c =
-    let k = judged (goal.at.returns-then-second-contract-ne0 c).Else-contract-ge-CONTRACTS in
-    let s = (start_of k).args in
+    let s = c.args in
     c.place_in.ensures
-    ∙ place_noon s.morning.now s.noon.now (known k) s.contract (clear (goal.at.returns-then-second-contract-ne0 c).Else-contract-ge-CONTRACTS) (omega (arith, c.if-contract-ge-CONTRACTS.false)) c.if-second-contract-ne0.true
+    ∙ place_noon s.morning.now s.noon.now (known (goal.at.returns-then-second-contract-ne0 c).After-pair_verdict-verdict) s.contract (clear (goal.at.returns-then-second-contract-ne0 c).Else-contract-ge-CONTRACTS) (omega (arith, c.if-contract-ge-CONTRACTS.false)) c.if-second-contract-ne0.true
 
 pub returns-then-first-contract-ne0 : goal.returns-then-first-contract-ne0
 returns-then-first-contract-ne0 c =
-    let k = judged (goal.at.returns-then-first-contract-ne0 c).Else-contract-ge-CONTRACTS in
-    let s = (start_of k).args in
+    let s = c.args in
     c.place_in-then-first-contract-ne0.ensures
-    ∙ place_morning s.morning.now s.noon.now (known k) s.contract (clear (goal.at.returns-then-first-contract-ne0 c).Else-contract-ge-CONTRACTS) (omega (arith, c.if-contract-ge-CONTRACTS.false))
+    ∙ place_morning s.morning.now s.noon.now (known (goal.at.returns-then-first-contract-ne0 c).After-pair_verdict-verdict) s.contract (clear (goal.at.returns-then-first-contract-ne0 c).Else-contract-ge-CONTRACTS) (omega (arith, c.if-contract-ge-CONTRACTS.false))
     (omega (arith, c.if-second-contract-ne0.false)) c.if-first-contract-ne0.true
 
 pub returns : goal.returns
 returns c =
-    let k = judged (goal.at.returns c).Else-contract-ge-CONTRACTS in
-    let s = (start_of k).args in
+    let s = c.args in
     c.nowhere-2.ensures
-    ∙ sym (place-nowhere s.morning.now s.noon.now (known k) s.contract (clear (goal.at.returns c).Else-contract-ge-CONTRACTS) (omega (arith, c.if-contract-ge-CONTRACTS.false))
+    ∙ sym (place-nowhere s.morning.now s.noon.now (known (goal.at.returns c).After-pair_verdict-verdict) s.contract (clear (goal.at.returns c).Else-contract-ge-CONTRACTS) (omega (arith, c.if-contract-ge-CONTRACTS.false))
     (omega (arith, c.if-second-contract-ne0.false)) (omega (arith, c.if-first-contract-ne0.false)))

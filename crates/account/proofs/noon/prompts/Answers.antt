@@ -5,7 +5,6 @@ use mathlib.Core.Path.{ap, ◌∙◌}
 use mathlib.Core.Bool.{cond}
 use mathlib.Core.List.{List}
 use lib.Dec.{eqb}
-use borrow.Author.Rules.{rules}
 use Rattle.account.specs.Records.{stretch}
 use Rattle.account.specs.declared.noon.Place.{Place}
 use Rattle.account.proofs.noon.prompts.Goals as goal

@@ -10,7 +10,6 @@ use Rattle.account.specs.Noon.{of_joined, of_morning, of_noon, few_joined}
 use Rattle.account.specs.code.Pair.{noon_spread, verdict_by}
 use Rattle.account.specs.declared.answers.Answer.TheVariants.{Accepted, TooManyJoined}
 use Rattle.account.proofs.NoonLaws.{stops, goes}
-use borrow.Author.Rules.{rules}
 use Rattle.account.proofs.noon.verdict_of.Goals as goal
 use Rattle.account.proofs.noon.verdict_of.Goals.{Else-number_of-ne0, Else-number_of-ne0-2, Else-number_of-ne0-3, Start}
 

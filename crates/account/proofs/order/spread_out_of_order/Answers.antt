@@ -1,5 +1,4 @@
 -- `account::order::spread_out_of_order` meets its contract. Assumes nothing.
-use borrow.Author.Rules.{rules}
 use Rattle.record.proofs.Tests.{both}
 use Rattle.account.proofs.order.spread_out_of_order.Goals as goal
 

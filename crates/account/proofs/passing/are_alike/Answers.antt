@@ -5,7 +5,6 @@ use mathlib.Core.Path.{◌∙◌}
 use lib.Dec.{eqb}
 use Rattle.record.specs.Layout.{leg_tier, leg_side}
 use Rattle.account.proofs.Legs.{two_bytes}
-use borrow.Author.Rules.{rules}
 use Rattle.account.proofs.passing.are_alike.Goals as goal
 
 pub returns : goal.returns

@@ -1,6 +1,5 @@
 -- `account::passing::contract_passes` meets its contract. Assumes nothing.
 use mathlib.Core.Path.{sym, ◌∙◌}
-use borrow.Author.Rules.{rules}
 use Rattle.account.proofs.passing.contract_passes.Goals as goal
 
 pub returns-then-kind_falls : goal.returns-then-kind_falls

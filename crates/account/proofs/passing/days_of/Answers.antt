@@ -1,8 +1,7 @@
-use Prim.Native.Nat.{◌-◌, ◌≤◌}
 use mathlib.Core.Path.{ap, ◌∙◌}
 use native.Mathlib.Omega.{arith}
 use Rattle.record.specs.Layout.{day}
-use Rattle.account.proofs.Runs.{DaysTo, days_start, days_next, days_end}
+use Rattle.account.proofs.Runs.{days_start, days_next, days_end}
 use Rattle.account.proofs.passing.days_of.Goals as goal
 
 pub loop-j-init : goal.loop-j-init

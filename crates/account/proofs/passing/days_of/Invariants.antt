@@ -1,9 +1,6 @@
 -- `account::passing::days_of` meets its contract. Assumes nothing.
 use Prim.Native.Nat.{◌-◌, ◌≤◌}
-use mathlib.Core.Path.{ap, ◌∙◌}
-use native.Mathlib.Omega.{arith}
-use Rattle.record.specs.Layout.{day}
-use Rattle.account.proofs.Runs.{DaysTo, days_start, days_next, days_end}
+use Rattle.account.proofs.Runs.{DaysTo}
 use Rattle.account.proofs.passing.days_of.Given as goal
 
 abbrev pub invariant-loop-j : goal.invariant-loop-j

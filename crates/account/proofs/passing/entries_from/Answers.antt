@@ -2,7 +2,6 @@
 use Prim.Native.Nat.{ℕ, ◌+◌, ◌-◌, min}
 use mathlib.Core.Path.{sym, subst, ◌∙◌}
 use native.Mathlib.Omega.{arith}
-use borrow.Author.Rules.{rules}
 use Rattle.account.specs.Check.{kind_falls, most_entries}
 use Rattle.account.specs.Records.{record_at}
 use Rattle.account.specs.code.Passing.{entry_passes, RunTo}

@@ -1,13 +1,9 @@
 -- `account::passing::entries_to` meets its contract. Assumes nothing.
 use Prim.Native.Nat.{ℕ, ◌-◌}
 use mathlib.Core.Bool.{Bool}
-use mathlib.Core.Path.{sym, ap, ◌∙◌}
 use mathlib.Core.List.{List}
-use native.Mathlib.Omega.{arith}
-use borrow.Author.Tests.{not-false}
 use Rattle.account.specs.code.Passing.{entry_passes, RunTo}
 use Rattle.account.specs.Records.{record_at}
-use Rattle.account.proofs.Runs.{run_start, run_next}
 use Rattle.account.proofs.passing.entries_to.Given as goal
 
 abbrev pub passes : List ℕ → List ℕ → ℕ → Bool

@@ -1,6 +1,5 @@
 -- The tests are put together.
 -- Assumes nothing.
-use borrow.Author.Rules.{rules}
 use Rattle.account.proofs.passing.entry_passes.Goals as goal
 
 pub returns : goal.returns

@@ -1,13 +1,8 @@
-use Prim.Native.Nat.{◌-◌}
-use mathlib.Core.Bool.{◌||◌}
-use mathlib.Core.Path.{◌≡◌, refl, sym, ◌∙◌}
+use mathlib.Core.Path.{sym, ◌∙◌}
 use lib.Dec.{eqb}
 use lib.ListN.{get_or}
 use native.Mathlib.Omega.{arith}
-use Rattle.exact.specs.Lists.{any}
-use Rattle.record.specs.Bytes.{count_from}
 use Rattle.record.proofs.Tests.{any_next, any_past}
-use Rattle.account.specs.code.Passing.{has_day}
 use Rattle.account.specs.Check.{most_prompts}
 use Rattle.account.proofs.passing.has_day.Goals as goal
 

@@ -1,6 +1,5 @@
 -- The byte is the tier.
 -- Assumes nothing.
-use borrow.Author.Rules.{rules}
 use Rattle.account.proofs.passing.leg_unlisted.Goals as goal
 
 pub returns : goal.returns

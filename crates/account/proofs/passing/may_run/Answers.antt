@@ -1,5 +1,4 @@
 -- `account::passing::may_run` meets its contract. Assumes nothing.
-use borrow.Author.Rules.{rules}
 use Rattle.account.proofs.passing.may_run.Goals as goal
 
 pub returns : goal.returns

@@ -1,6 +1,5 @@
 -- The bytes are the sides.
 -- Assumes nothing.
-use borrow.Author.Rules.{rules}
 use Rattle.account.proofs.passing.on_one_side.Goals as goal
 
 pub returns : goal.returns

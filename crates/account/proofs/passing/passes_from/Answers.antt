@@ -1,25 +1,14 @@
 -- `account::passing::passes_from` meets its contract. Assumes nothing.
 use Prim.Native.Nat.{ℕ}
 use mathlib.Core.Path.{◌≡◌, sym, ◌∙◌}
-use borrow.Author.Tests.{not-false}
 use native.Mathlib.Omega.{arith}
 use Rattle.account.specs.code.Passing.{Begins}
 use Rattle.account.proofs.Runs.{none_run, contract_run, begins_read}
-use borrow.Author.Rules.{rules}
 use Rattle.account.proofs.passing.passes_from.Goals as goal
-use Rattle.account.proofs.passing.passes_from.Goals.{After-contract-c, After-kind-n, Else-not-may_run, Start}
+use Rattle.account.proofs.passing.passes_from.Goals.{Else-not-may_run}
 
 -- record k's contract and kind read: a run of its kind may begin
 module _ (c : Else-not-may_run) where
-  abbrev contract-read : After-contract-c
-  contract-read = c.before.before.before.before.before
-
-  abbrev kind-read : After-kind-n
-  kind-read = c.before.before.before.before.before.before.before.before.before
-
-  abbrev s : Start
-  s = c.before.before.before.before.before.before.before.before.before.before.before.before.before
-
   begins : (n : ℕ) → c.kind-n.result ≡ n
       → Begins n c.args.file.now c.args.counts.now c.args.k c.contract-c.result
   begins n e =
@@ -57,5 +46,4 @@ spreads_from-requires c =
 
 pub returns : goal.returns
 returns c =
-    let start = s (goal.at.returns c).Else-not-may_run in
-    none_run start.args.file.now start.args.first.now start.args.counts.now start.args.k (omega (arith, start.pre.0))
+    none_run c.args.file.now c.args.first.now c.args.counts.now c.args.k (omega (arith, c.requires.0))

@@ -1,5 +1,4 @@
 -- `account::passing::prompt_passes` meets its contract. Assumes nothing.
-use borrow.Author.Rules.{rules}
 use Rattle.account.proofs.passing.prompt_passes.Goals as goal
 
 pub returns : goal.returns

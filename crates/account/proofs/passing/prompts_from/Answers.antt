@@ -1,7 +1,6 @@
 -- `account::passing::prompts_from` meets its contract. Assumes nothing.
 use Prim.Native.Nat.{ℕ, ◌+◌, ◌-◌, min}
 use mathlib.Core.Path.{subst, ◌∙◌}
-use borrow.Author.Rules.{rules}
 use Rattle.account.specs.code.Passing.{prompt_passes, RunTo}
 use Rattle.account.specs.Records.{record_at}
 use Rattle.account.specs.Check.{most_prompts}

@@ -1,11 +1,7 @@
-use Prim.Native.Nat.{ℕ, ◌-◌}
-use mathlib.Core.Bool.{Bool, true}
+use mathlib.Core.Bool.{true}
 use mathlib.Core.Path.{◌≡◌, sym, ◌∙◌}
-use mathlib.Core.List.{List}
 use native.Mathlib.Omega.{arith}
-use borrow.Author.Tests.{not-false}
-use Rattle.account.specs.code.Passing.{prompt_passes, RunTo}
-use Rattle.account.specs.Records.{record_at}
+use Rattle.account.specs.code.Passing.{prompt_passes}
 use Rattle.account.proofs.Runs.{run_start, run_next}
 use Rattle.account.proofs.passing.prompts_to.Invariants.{passes}
 use Rattle.account.proofs.passing.prompts_to.Goals as goal

@@ -1,13 +1,9 @@
 -- `account::passing::prompts_to` meets its contract. Assumes nothing.
 use Prim.Native.Nat.{ℕ, ◌-◌}
-use mathlib.Core.Bool.{Bool, true}
-use mathlib.Core.Path.{◌≡◌, sym, ◌∙◌}
+use mathlib.Core.Bool.{Bool}
 use mathlib.Core.List.{List}
-use native.Mathlib.Omega.{arith}
-use borrow.Author.Tests.{not-false}
 use Rattle.account.specs.code.Passing.{prompt_passes, RunTo}
 use Rattle.account.specs.Records.{record_at}
-use Rattle.account.proofs.Runs.{run_start, run_next}
 use Rattle.account.proofs.passing.prompts_to.Given as goal
 
 abbrev pub passes : List ℕ → ℕ → ℕ → Bool

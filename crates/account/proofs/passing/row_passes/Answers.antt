@@ -1,5 +1,4 @@
 -- `account::passing::row_passes` meets its contract. Assumes nothing.
-use borrow.Author.Rules.{rules}
 use Rattle.account.proofs.passing.row_passes.Goals as goal
 
 pub returns : goal.returns

@@ -2,7 +2,6 @@
 use Prim.Native.Nat.{ℕ, ◌+◌, ◌-◌, min}
 use mathlib.Core.Path.{subst, ap, ◌∙◌}
 use mathlib.Core.List.{List}
-use borrow.Author.Rules.{rules}
 use Rattle.account.specs.Conversions.{other_row}
 use Rattle.account.specs.code.Passing.{DaysListed, row_passes, RunTo}
 use Rattle.account.specs.Records.{record_at, records}

@@ -1,11 +1,6 @@
-use Prim.Native.Nat.{ℕ, ◌-◌}
-use mathlib.Core.Bool.{Bool}
 use mathlib.Core.Path.{sym, ap, ◌∙◌}
-use mathlib.Core.List.{List}
 use native.Mathlib.Omega.{arith}
-use borrow.Author.Tests.{not-false}
-use Rattle.account.specs.code.Passing.{row_passes, RunTo}
-use Rattle.account.specs.Records.{record_at}
+use Rattle.account.specs.code.Passing.{row_passes}
 use Rattle.account.proofs.Runs.{run_start, run_next}
 use Rattle.account.proofs.passing.rows_to.Invariants.{passes}
 use Rattle.account.proofs.passing.rows_to.Goals as goal

@@ -1,6 +1,5 @@
 -- Two legs, and the third where there is one.
 -- Assumes nothing.
-use borrow.Author.Rules.{rules}
 use mathlib.Core.Path.{◌∙◌}
 use mathlib.Core.Bool.{not, ◌&&◌}
 use Rattle.record.specs.Layout.{two_legs}

@@ -3,12 +3,11 @@
 use mathlib.Core.Path.{sym, ap, ◌∙◌}
 use mathlib.Core.Bool.{Bool, not, ◌&&◌, ◌||◌}
 use lib.ListN.{length}
-use borrow.Author.Tests.{lt-leb, not-true, not-false}
+use borrow.Author.Tests.{lt-leb}
 use Rattle.exact.specs.Lists.{any}
 use Rattle.record.specs.Layout.{record_bytes, legs_of}
 use Rattle.record.proofs.Sound.{sound-short}
 use Rattle.account.specs.code.Passing.{leg_unlisted_in, legs_meet}
-use borrow.Author.Rules.{rules}
 use Rattle.account.proofs.passing.spread_passes.Goals as goal
 
 pub returns-then-r-lt-RECORD_BYTES : goal.returns-then-r-lt-RECORD_BYTES

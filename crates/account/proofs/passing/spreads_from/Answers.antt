@@ -2,7 +2,6 @@
 use Prim.Native.Nat.{ℕ, ◌+◌, ◌-◌, min}
 use mathlib.Core.Path.{subst, ◌∙◌}
 use mathlib.Core.List.{List}
-use borrow.Author.Rules.{rules}
 use Rattle.account.specs.code.Passing.{TiersListed, spread_passes, RunTo}
 use Rattle.account.specs.Records.{record_at, records}
 use Rattle.account.specs.Check.{most_spreads}

@@ -1,13 +1,9 @@
 -- `account::passing::spreads_to` meets its contract. Assumes nothing.
 use Prim.Native.Nat.{ℕ, ◌-◌}
 use mathlib.Core.Bool.{Bool}
-use mathlib.Core.Path.{sym, ap, ◌∙◌}
 use mathlib.Core.List.{List}
-use native.Mathlib.Omega.{arith}
-use borrow.Author.Tests.{not-false}
 use Rattle.account.specs.code.Passing.{spread_passes, RunTo}
 use Rattle.account.specs.Records.{record_at}
-use Rattle.account.proofs.Runs.{run_start, run_next}
 use Rattle.account.proofs.passing.spreads_to.Given as goal
 
 abbrev pub passes : List ℕ → List Bool → ℕ → ℕ → Bool

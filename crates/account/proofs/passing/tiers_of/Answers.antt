@@ -1,8 +1,7 @@
-use Prim.Native.Nat.{◌-◌, ◌≤◌}
 use mathlib.Core.Path.{ap, ◌∙◌}
 use native.Mathlib.Omega.{arith}
 use Rattle.record.specs.Layout.{tier}
-use Rattle.account.proofs.Runs.{TiersTo, tiers_start, tiers_next, tiers_end}
+use Rattle.account.proofs.Runs.{tiers_start, tiers_next, tiers_end}
 use Rattle.account.proofs.passing.tiers_of.Goals as goal
 
 pub loop-j-init : goal.loop-j-init

@@ -1,9 +1,6 @@
 -- `account::passing::tiers_of` meets its contract. Assumes nothing.
 use Prim.Native.Nat.{◌-◌, ◌≤◌}
-use mathlib.Core.Path.{ap, ◌∙◌}
-use native.Mathlib.Omega.{arith}
-use Rattle.record.specs.Layout.{tier}
-use Rattle.account.proofs.Runs.{TiersTo, tiers_start, tiers_next, tiers_end}
+use Rattle.account.proofs.Runs.{TiersTo}
 use Rattle.account.proofs.passing.tiers_of.Given as goal
 
 abbrev pub invariant-loop-j : goal.invariant-loop-j

@@ -1,11 +1,11 @@
-use Prim.Native.Nat.{◌-◌, ◌≤◌, ◌<◌}
-use mathlib.Core.Path.{◌≡◌, sym, ap, ◌∙◌}
+use Prim.Native.Nat.{◌≤◌, ◌<◌}
+use mathlib.Core.Path.{sym, ap, ◌∙◌}
 use native.Mathlib.Omega.{arith}
 use borrow.Author.Tests.{eq-eqb, ne_eqb}
 use Rattle.record.specs.Layout.{day}
-use Rattle.account.specs.Parts.{place_of, on_day}
-use Rattle.account.specs.Records.{records, record_count}
-use Rattle.account.proofs.Walk.{place_from, place_start, place_here, place_next, place_past}
+use Rattle.account.specs.Parts.{on_day}
+use Rattle.account.specs.Records.{record_count}
+use Rattle.account.proofs.Walk.{place_start, place_here, place_next, place_past}
 use Rattle.account.proofs.prompts.place_of_day.Goals as goal
 
 pub loop-i-init : goal.loop-i-init

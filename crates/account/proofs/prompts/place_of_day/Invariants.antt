@@ -1,12 +1,9 @@
 -- `account::prompts::place_of_day` meets its contract. Assumes nothing.
-use Prim.Native.Nat.{◌-◌, ◌≤◌, ◌<◌}
-use mathlib.Core.Path.{◌≡◌, sym, ap, ◌∙◌}
-use native.Mathlib.Omega.{arith}
-use borrow.Author.Tests.{eq-eqb, ne_eqb}
-use Rattle.record.specs.Layout.{day}
+use Prim.Native.Nat.{◌-◌}
+use mathlib.Core.Path.{◌≡◌}
 use Rattle.account.specs.Parts.{place_of, on_day}
 use Rattle.account.specs.Records.{records, record_count}
-use Rattle.account.proofs.Walk.{place_from, place_start, place_here, place_next, place_past}
+use Rattle.account.proofs.Walk.{place_from}
 use Rattle.account.proofs.prompts.place_of_day.Given as goal
 
 abbrev pub invariant-loop-i : goal.invariant-loop-i

@@ -5,7 +5,6 @@ use Prim.Native.Nat.{◌≤◌}
 use native.Mathlib.Omega.{arith}
 use lib.Dec.{ltb}
 use lib.IntN.{ℤ, nat_abs, ◌*ℤ◌}
-use borrow.Author.Rules.{rules}
 use Rattle.exact.specs.Signed.{Sized}
 use Rattle.exact.proofs.Integers.{back, seen}
 use Rattle.exact.proofs.SignedCalls.{times_fits, times_is}
@@ -34,7 +33,7 @@ returns c =
     let s = c.args in
     let t = c.times in
     let v = c.converted in
-    seen (λ (z : ℤ). ltb most_conversion (nat_abs z)) v.result (record { sfits = v.type-inv }) c.is_beyond.ensures
+    seen (λ (z : ℤ). ltb most_conversion (nat_abs z)) v.result (record { sfits = v.type_inv }) c.is_beyond.ensures
     ∙ ap (λ (z : ℤ). ltb most_conversion (nat_abs z))
-    (seen (converted_at s.f.raised s.f.lowered) t.result (record { sfits = t.type-inv }) v.ensures
+    (seen (converted_at s.f.raised s.f.lowered) t.result (record { sfits = t.type_inv }) v.ensures
     ∙ ap (converted_at s.f.raised s.f.lowered) (multiplied (goal.at.returns c).After-times).is)

@@ -9,7 +9,7 @@ use mir.Val.{to_z, of_z}
 use Rattle.exact.specs.Lists.{any}
 use Rattle.exact.proofs.Integers.{back}
 use Rattle.record.specs.Bytes.{count_from}
-use Rattle.record.specs.Layout.{Record, loss, scenario_count, hundred_thousand}
+use Rattle.record.specs.Layout.{scenario_count, hundred_thousand}
 use Rattle.record.specs.Within.{Between}
 use Rattle.account.specs.Products.{converted_at, most_conversion, most_per_tick}
 use Rattle.account.proofs.rates.beyond_in_any.Invariants.{beyond}

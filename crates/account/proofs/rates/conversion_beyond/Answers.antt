@@ -8,7 +8,6 @@ use native.Mathlib.Omega.{arith}
 use lib.Dec.{eqb, ltb}
 use lib.IntN.{ℤ, pos, nat_abs, ◌*ℤ◌}
 use lib.ListN.{get_or}
-use borrow.Author.Rules.{rules}
 use borrow.Author.Tests.{eq-eqb, ne_eqb}
 use Rattle.exact.specs.Lists.{any}
 use Rattle.exact.proofs.Integers.{back}
@@ -84,6 +83,6 @@ returns c =
     let other : eqb (currency row) 0 ≡ false = ne_eqb (currency row) 0 (λ e. c.if-c-eq0.false (is ∙ e)) in
     λ rates held.
     c.beyond_in_any.ensures
-    ∙ ap (by-factors row c.factors_of.result.raised c.factors_of.result.lowered) (back t.result (record { sfits = t.type-inv }) ∙ t.ensures.is)
+    ∙ ap (by-factors row c.factors_of.result.raised c.factors_of.result.lowered) (back t.result (record { sfits = t.type_inv }) ∙ t.ensures.is)
     ∙ ap₂ (λ (up down : ℕ). by-factors row up down (lots row *ℤ pos (value row))) (raised_is (goal.at.returns c).After-factors_of rates held) (lowered_is (goal.at.returns c).After-factors_of rates held)
     ∙ ap (by-currency rates row) (sym other)

@@ -6,7 +6,6 @@ use Prim.Native.Nat.{ℕ, ◌*◌, ◌^◌, ◌≤◌, ◌<◌}
 use native.Mathlib.Nat.{mul-le-mul}
 use native.Mathlib.Omega.{arith}
 use lib.IntN.{ℤ, nat_abs}
-use borrow.Author.Rules.{rules}
 use Rattle.exact.specs.Rounding.{half_up, half_away}
 use Rattle.exact.specs.Signed.{negative}
 use Rattle.exact.proofs.Integers.{back, seen}

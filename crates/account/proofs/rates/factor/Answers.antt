@@ -2,7 +2,6 @@
 -- Assumes nothing.
 use mathlib.Core.Path.{◌∙◌, sym, ap}
 use mathlib.Core.Bool.{Bool, cond}
-use borrow.Author.Rules.{rules}
 use Rattle.exact.specs.Signed.{negative}
 use Rattle.exact.proofs.Integers.{seen}
 use Rattle.account.proofs.rates.factor.Goals as goal

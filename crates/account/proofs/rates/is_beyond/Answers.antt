@@ -3,7 +3,6 @@
 use mathlib.Core.Path.{ap}
 use lib.Dec.{ltb}
 use lib.IntN.{nat_abs}
-use borrow.Author.Rules.{rules}
 use Rattle.exact.proofs.Integers.{seen}
 use Rattle.account.specs.Products.{most_conversion}
 use Rattle.account.proofs.rates.is_beyond.Goals as goal

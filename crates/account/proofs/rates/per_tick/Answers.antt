@@ -3,7 +3,6 @@
 use mathlib.Core.Path.{◌∙◌, ap}
 use native.Mathlib.Omega.{arith}
 use lib.IntN.{pos}
-use borrow.Author.Rules.{rules}
 use Rattle.exact.proofs.SignedCalls.{times_fits, times_is, sized_back}
 use Rattle.record.specs.Layout.{lots, value, hundred_thousand}
 use Rattle.account.proofs.rates.per_tick.Goals as goal

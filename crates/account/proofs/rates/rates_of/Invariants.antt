@@ -1,16 +1,12 @@
 -- `rates_of`: the table of the rates from place i on.
 -- Assumes nothing.
-use mathlib.Core.Path.{◌≡◌, ◌∙◌, sym, ap, subst}
-use mathlib.Core.List.{List, [], ◌∷◌}
-use Prim.Native.Nat.{ℕ, ◌+◌, ◌-◌, ◌*◌, ◌≤◌}
-use native.Mathlib.Omega.{arith}
+use mathlib.Core.List.{List}
+use Prim.Native.Nat.{ℕ, ◌-◌, ◌*◌, ◌≤◌}
 use lib.ListN.{drop}
-use borrow.Author.Rules.{rules}
 use Rattle.record.specs.Bytes.{record_bytes}
 use Rattle.record.specs.Layout.{Record}
 use Rattle.account.specs.code.Rates.{RatesOf}
-use Rattle.account.specs.Records.{cut, record_at, record_count}
-use Rattle.account.proofs.Walk.{cut_on}
+use Rattle.account.specs.Records.{cut, record_count}
 use Rattle.account.proofs.rates.rates_of.Given as goal
 
 abbrev pub from-here : List ℕ → ℕ → List Record

@@ -5,7 +5,6 @@ use Prim.Native.Nat.{ℕ, ◌≤◌, ◌<◌}
 use native.Mathlib.Omega.{arith}
 use mathlib.Core.List.{◌∷◌}
 use lib.ListN.{set, length-set}
-use borrow.Author.Rules.{rules}
 use Rattle.record.specs.Layout.{most_currency, rate_currency}
 use Rattle.account.specs.Products.{raised, lowered}
 use Rattle.account.proofs.ProductLaws.{Held, held_more, held_past}

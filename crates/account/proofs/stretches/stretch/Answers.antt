@@ -1,5 +1,4 @@
 -- `account::stretches::stretch` meets its contract. Assumes nothing.
-use borrow.Author.Rules.{rules}
 use native.Mathlib.Omega.{arith}
 use Rattle.account.proofs.Walk.{stretch_past, stretch_rest, stretch-whole}
 use Rattle.account.proofs.stretches.stretch.Goals as goal

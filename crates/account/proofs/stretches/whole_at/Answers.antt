@@ -1,6 +1,4 @@
 -- `account::stretches::whole_at`: one record, as a stretch of the file. Assumes nothing.
-use borrow.Author.Rules.{rules}
-use native.Mathlib.Omega.{arith}
 use Rattle.account.proofs.Walk.{stretch-whole}
 use Rattle.account.proofs.stretches.whole_at.Goals as goal
 

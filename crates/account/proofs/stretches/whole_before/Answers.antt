@@ -1,7 +1,5 @@
 -- `account::stretches::whole_before` meets its contract. Assumes nothing.
-use borrow.Author.Rules.{rules}
 use mathlib.Core.Path.{◌∙◌}
-use native.Mathlib.Omega.{arith}
 use Rattle.account.proofs.Walk.{before_is}
 use Rattle.account.proofs.stretches.whole_before.Goals as goal
 

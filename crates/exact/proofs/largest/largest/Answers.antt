@@ -9,7 +9,7 @@ use mir.Val.{SFits}
 use borrow.Author.Rules.{rules}
 use Rattle.exact.specs.Signed.{larger}
 use Rattle.exact.proofs.Integers.{back, seen}
-use Rattle.exact.proofs.Downward.{Seen, start, next, finish}
+use Rattle.exact.proofs.Downward.{start, next, finish}
 use Rattle.exact.proofs.largest.largest.Goals as goal
 
 pub loop-i-init : goal.loop-i-init

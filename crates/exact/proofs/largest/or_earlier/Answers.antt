@@ -3,7 +3,6 @@ use mathlib.Core.Path.{◌∙◌, sym}
 use lib.Signed.{lt_z}
 use mir.Syntax.{w64}
 use mir.Val.{SFits}
-use borrow.Author.Rules.{rules}
 use Rattle.exact.proofs.Integers.{back, seen₂}
 use Rattle.exact.proofs.largest.or_earlier.Goals as goal
 

@@ -3,7 +3,6 @@ use mathlib.Core.Path.{◌≡◌, ◌∙◌, sym, ap}
 use Prim.Native.Nat.{ℕ}
 use native.Mathlib.Omega.{arith}
 use lib.IntN.{ℤ, nat_abs}
-use borrow.Author.Rules.{rules}
 use Rattle.exact.specs.Rounding.{half_up_to, half_away_to}
 use Rattle.exact.specs.Signed.{with_sign_of}
 use Rattle.exact.proofs.Integers.{back, seen}

@@ -2,7 +2,6 @@
 use mathlib.Core.Path.{sym}
 use native.Mathlib.Nat.{mod-lt, pos_of_ne-zero}
 use native.Mathlib.Omega.{arith}
-use borrow.Author.Rules.{rules}
 use Rattle.exact.proofs.HalfUp.{half_zero, half_above, half_below, half_room}
 use Rattle.exact.proofs.rounding.half_up.Goals as goal
 

@@ -2,7 +2,6 @@
 use mathlib.Core.Path.{◌≡◌, ◌∙◌, sym, ap}
 use Prim.Native.Nat.{ℕ, ◌*◌}
 use native.Mathlib.Omega.{arith}
-use borrow.Author.Rules.{rules}
 use Rattle.exact.specs.Rounding.{half_up_to}
 use Rattle.exact.proofs.UnitLaws.{one_up}
 use Rattle.exact.proofs.rounding.half_up_to.Goals as goal

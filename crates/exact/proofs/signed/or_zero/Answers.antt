@@ -1,7 +1,6 @@
 -- `or_zero`: by the sign.
 use mathlib.Core.Path.{◌∙◌, sym, ap}
 use lib.IntN.{nat_abs}
-use borrow.Author.Rules.{rules}
 use Rattle.exact.specs.Signed.{negative}
 use Rattle.exact.proofs.Integers.{back, seen, natural, or_zero-negative, or_zero_natural}
 use Rattle.exact.proofs.signed.or_zero.Goals as goal

@@ -3,7 +3,6 @@ use mathlib.Core.Path.{◌∙◌, sym, ap}
 use Prim.Native.Nat.{ℕ, ◌-◌}
 use native.Mathlib.Omega.{arith}
 use lib.IntN.{ℤ, nat_abs}
-use borrow.Author.Rules.{rules}
 use Rattle.exact.specs.Signed.{towards_zero, with_sign_of}
 use Rattle.exact.proofs.Integers.{back, seen, abs_sfits, towards_zero_sign, towards_zero-none, towards_zero_all}
 use Rattle.exact.proofs.signed.towards_zero.Goals as goal

@@ -4,7 +4,6 @@ use Prim.Native.Nat.{ℕ, ◌<◌, ◌^◌}
 use lib.IntN.{ℤ, pos, neg_ℤ, ◌-ℤ◌, +ℤ_idl}
 use mir.Syntax.{w64}
 use mir.Val.{SFits, to_z, of_z}
-use borrow.Author.Rules.{rules}
 use Rattle.exact.specs.Signed.{negative}
 use Rattle.exact.proofs.Integers.{back, seen, sfits_abs, abs_neg, sign_negative, sign_natural}
 use Rattle.exact.proofs.signed.with_sign_of.Goals as goal

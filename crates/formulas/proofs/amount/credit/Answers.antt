@@ -14,25 +14,25 @@ use Rattle.formulas.proofs.amount.credit.Goals.{After-half_up, After-unit_price_
 parts :
     (c : After-unit_price_risk-risk) →
     let s = c.args in
-    CreditParts s.unit s.twice-risk s.used s.percent s.net c.unit_price_risk-risk.result.whole c.unit_price_risk-risk.result.part
+    CreditParts s.unit s.twice_risk s.used s.percent s.net c.unit_price_risk-risk.result.whole c.unit_price_risk-risk.result.part
 parts c =
     let s = c.args in
     let p = c.requires in
     let u = c.unit_price_risk-risk.ensures in
-    credit-parts s.unit s.twice-risk s.used s.percent s.net _ _ p.4.least p.4.most p.0 p.1 p.2 p.3 u.0 u.1 u.2
+    credit-parts s.unit s.twice_risk s.used s.percent s.net _ _ p.4.least p.4.most p.0 p.1 p.2 p.3 u.0 u.1 u.2
 
 -- the sum of units that is returned, in hundredths
 credited :
     (c : After-half_up) →
     let s = c.args in
-    (c.unit_price_risk-risk.result.whole * s.used / (200 * s.unit) * s.percent + c.half_up.result) * s.unit ≡ credit s.unit s.twice-risk
+    (c.unit_price_risk-risk.result.whole * s.used / (200 * s.unit) * s.percent + c.half_up.result) * s.unit ≡ credit s.unit s.twice_risk
     s.used s.percent s.net
 credited c =
     let s = c.args in
     ap (λ (x : ℕ). (c.unit_price_risk-risk.result.whole * s.used / (200 * s.unit) * s.percent + x) * s.unit) c.half_up.ensures ∙ (parts (goal.at.overflow_add-units c).After-unit_price_risk-risk).is
 
 pub overflow_mul-halves : goal.overflow_mul-halves
-overflow_mul-halves c = let h = (parts (goal.at.overflow_mul-halves c).After-unit_price_risk-risk).halves_within in omega (arith, h, c.ranges.twice-risk)
+overflow_mul-halves c = let h = (parts (goal.at.overflow_mul-halves c).After-unit_price_risk-risk).halves_within in omega (arith, h, c.ranges.twice_risk)
 
 pub overflow_mul-each : goal.overflow_mul-each
 overflow_mul-each c = omega (arith, c.requires.4.most)
@@ -62,7 +62,7 @@ nonzero_div-units c =
 pub overflow_mul-units : goal.overflow_mul-units
 overflow_mul-units c =
     let h = (parts (goal.at.overflow_mul-units c).After-unit_price_risk-risk).wholes_within in
-    omega (arith, h, c.ranges.twice-risk)
+    omega (arith, h, c.ranges.twice_risk)
 
 pub overflow_mul-unit : goal.overflow_mul-unit
 overflow_mul-unit c =

@@ -10,32 +10,25 @@ use Rattle.formulas.specs.Bounds.{most_charge}
 use Rattle.formulas.specs.Charges.{charged}
 use Rattle.formulas.proofs.AmountLaws.{delta_rate, charged_within}
 use Rattle.formulas.proofs.amount.prompt_charge.Goals as goal
-use Rattle.formulas.proofs.amount.prompt_charge.Goals.{After-magnitude, After-magnitude-2, Start}
+use Rattle.formulas.proofs.amount.prompt_charge.Goals.{After-magnitude, After-magnitude-2}
 
 -- the sizes of what is used and what is not
 used-size : (c : After-magnitude) → c.magnitude.result ≡ nat_abs c.args.used.0
 used-size c = seen nat_abs c.args.used.0 (sfits_abs c.args.used.0 (omega (arith, c.requires.0))) c.magnitude.ensures
 
-abbrev start_of : After-magnitude-2 → Start
-start_of c =
-    let start = c.before.before.before.before in
-    start
-
-unused-size : (c : After-magnitude-2) → c.magnitude-2.result ≡ nat_abs (start_of c).args.unused.0
+unused-size : (c : After-magnitude-2) → c.magnitude-2.result ≡ nat_abs c.args.unused.0
 unused-size c =
-    let s = start_of c in
-    seen nat_abs s.args.unused.0 (sfits_abs s.args.unused.0 (omega (arith, s.pre.1))) c.magnitude-2.ensures
+    seen nat_abs c.args.unused.0 (sfits_abs c.args.unused.0 (omega (arith, c.requires.1))) c.magnitude-2.ensures
 
 first-product : (c : After-magnitude) → c.magnitude.result * c.args.spread_rate ≤ 1280000000000000000
 first-product c =
     let e = used-size c in
     delta_rate c.magnitude.result c.args.spread_rate (omega (arith, c.requires.0)) c.requires.2
 
-second-product : (c : After-magnitude-2) → c.magnitude-2.result * (start_of c).args.outright_rate ≤ 1280000000000000000
+second-product : (c : After-magnitude-2) → c.magnitude-2.result * c.args.outright_rate ≤ 1280000000000000000
 second-product c =
-    let s = start_of c in
     let e = unused-size c in
-    delta_rate c.magnitude-2.result s.args.outright_rate (omega (arith, s.pre.1)) s.pre.3
+    delta_rate c.magnitude-2.result c.args.outright_rate (omega (arith, c.requires.1)) c.requires.3
 
 pub overflow_mul-magnitude : goal.overflow_mul-magnitude
 overflow_mul-magnitude c = let p = first-product c in omega arith
@@ -48,14 +41,13 @@ overflow_add-magnitude c = let p = first-product (goal.at.overflow_add-magnitude
 
 pub half_up_to-requires : goal.half_up_to-requires
 half_up_to-requires c =
-    let s = start_of c in
     let p = first-product (goal.at.half_up_to-requires c).After-magnitude in
     let q = second-product c in (
-      omega (arith, s.pre.4),
+      omega (arith, c.requires.4),
       omega (
         arith,
-        charged_within s.args.unit (c.magnitude.result * s.args.spread_rate + c.magnitude-2.result * s.args.outright_rate)
-            s.pre.4 (omega arith),
+        charged_within c.args.unit (c.magnitude.result * c.args.spread_rate + c.magnitude-2.result * c.args.outright_rate)
+            c.requires.4 (omega arith),
       ),
     )
 

@@ -12,14 +12,14 @@ use Rattle.formulas.proofs.amount.unit_price_risk.Goals as goal
 pub returns-then-net-eq0 : goal.returns-then-net-eq0
 returns-then-net-eq0 c =
     let s = c.args in
-    (subst⁻¹ (λ (n : ℕ). ◌≡◌ {A = ℕ} 0 (unit_price_risk s.twice-risk n)) c.if-net-eq0.true (sym (unit-none s.twice-risk)), omega arith, zero-le)
+    (subst⁻¹ (λ (n : ℕ). ◌≡◌ {A = ℕ} 0 (unit_price_risk s.twice_risk n)) c.if-net-eq0.true (sym (unit-none s.twice_risk)), omega arith, zero-le)
 
 pub overflow_mul-rest : goal.overflow_mul-rest
 overflow_mul-rest c =
-    omega (arith, mod-lt c.args.twice-risk (pos_of_ne-zero c.if-net-eq0.false))
+    omega (arith, mod-lt c.args.twice_risk (pos_of_ne-zero c.if-net-eq0.false))
 
 pub returns : goal.returns
 returns c =
     let s = c.args in
-    let u = unit-parts s.twice-risk s.net c.half_up.result (pos_of_ne-zero c.if-net-eq0.false) c.half_up.ensures in
+    let u = unit-parts s.twice_risk s.net c.half_up.result (pos_of_ne-zero c.if-net-eq0.false) c.half_up.ensures in
     (u.is, u.whole_within, u.part_within)

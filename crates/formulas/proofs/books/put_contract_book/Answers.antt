@@ -12,13 +12,6 @@ use Rattle.formulas.proofs.BookLaws.{lent_sound, lent_book, lent_touches}
 use Rattle.formulas.proofs.RecordLaws.{count_is}
 use Rattle.formulas.proofs.UnspreadLaws.{unspread, untouched}
 use Rattle.formulas.proofs.books.put_contract_book.Goals as goal
-use Rattle.formulas.proofs.books.put_contract_book.Goals.{After-interprompt_table-table, Start}
-
--- what the spread steps are asked to accept, by where the table was made
-abbrev started : After-interprompt_table-table → Start
-started c =
-    let after-put-tiers = c.before in
-    after-put-tiers.before.before.before.before.before
 
 pub put_unused-requires : goal.put_unused-requires
 put_unused-requires c =
@@ -45,36 +38,32 @@ interprompt_table-table-requires c =
 
 pub put_counted-requires : goal.put_counted-requires
 put_counted-requires c =
-    let s = started (goal.at.put_counted-requires c).After-interprompt_table-table in
     let table = c.interprompt_table-table in (
-      lent_sound s.args.prompts.now s.args.spreads.now _ s.args.nets.now table.result c.put_tiers.ensures
-          table.ensures s.pre.0,
-      s.pre.1,
+      lent_sound c.args.prompts.now c.args.spreads.now _ c.args.nets.now table.result c.put_tiers.ensures
+          table.ensures c.requires.0,
+      c.requires.1,
     )
 
 pub returns-then-counted : goal.returns-then-counted
 returns-then-counted c =
-    let s = started (goal.at.returns-then-counted c).After-interprompt_table-table in
-    let prompts = s.args.prompts.now in
-    let spreads = s.args.spreads.now in
-    let nets = s.args.nets.now in
+    let prompts = c.args.prompts.now in
+    let spreads = c.args.spreads.now in
+    let nets = c.args.nets.now in
     let table = c.interprompt_table-table in
-    let tiers = c.put_tiers.ensures in record { book = lent_book prompts spreads _ nets table.result tiers table.ensures s.pre.0 _ c.put_counted.ensures.book; touched = λ asked. lent_touches prompts spreads _ nets table.result tiers table.ensures s.pre.0 c.put_counted.result c.put_counted.ensures.touched }
+    let tiers = c.put_tiers.ensures in record { book = lent_book prompts spreads _ nets table.result tiers table.ensures c.requires.0 _ c.put_counted.ensures.book; touched = λ asked. lent_touches prompts spreads _ nets table.result tiers table.ensures c.requires.0 c.put_counted.result c.put_counted.ensures.touched }
 
 pub put_book-requires : goal.put_book-requires
 put_book-requires c =
-    let s = started (goal.at.put_book-requires c).After-interprompt_table-table in
     let table = c.interprompt_table-table in (
-      lent_sound s.args.prompts.now s.args.spreads.now _ s.args.nets.now table.result c.put_tiers.ensures
-          table.ensures s.pre.0,
-      s.pre.1,
+      lent_sound c.args.prompts.now c.args.spreads.now _ c.args.nets.now table.result c.put_tiers.ensures
+          table.ensures c.requires.0,
+      c.requires.1,
     )
 
 pub returns : goal.returns
 returns c =
-    let s = started (goal.at.returns c).After-interprompt_table-table in
     let table = c.interprompt_table-table in record {
-      book = lent_book s.args.prompts.now s.args.spreads.now _ s.args.nets.now table.result c.put_tiers.ensures
-          table.ensures s.pre.0 _ c.put_book.ensures;
+      book = lent_book c.args.prompts.now c.args.spreads.now _ c.args.nets.now table.result c.put_tiers.ensures
+          table.ensures c.requires.0 _ c.put_book.ensures;
       touched = λ asked. absurd (true≢false (sym asked ∙ c.if-counted.false));
     }

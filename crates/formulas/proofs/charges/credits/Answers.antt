@@ -53,10 +53,10 @@ loop-i-preserved c =
     let firsts : length (spreads_from first) ≡ spread_places = length-map first _ ∙ c.requires.1.0 in
     let seconds : length (spreads_from second) ≡ spread_places = length-map second _ ∙ c.requires.1.1 in
     walk_next c.args.units.now c.args.prices.now c.args.nets.now (records f) (spreads_from first) (spreads_from second) (record_count f) l.i
-    l.earned c.add_credits.new.0 (sym n) (omega arith) (omega arith) turn l.invariant
-    (subst₂ (λ (x y : ℕ). WithEntry at (get_or (records f) l.i []) x y l.earned c.add_credits.new.0) (sym (spread_from first l.i))
+    l.earned c.add_credits.new.earned (sym n) (omega arith) (omega arith) turn l.invariant
+    (subst₂ (λ (x y : ℕ). WithEntry at (get_or (records f) l.i []) x y l.earned c.add_credits.new.earned) (sym (spread_from first l.i))
     (sym (spread_from second l.i))
-    (subst (λ (r : Record). WithEntry at r (get_or first l.i 0) (get_or second l.i 0) l.earned c.add_credits.new.0) (lent_at f l.i turn)
+    (subst (λ (r : Record). WithEntry at r (get_or first l.i 0) (get_or second l.i 0) l.earned c.add_credits.new.earned) (lent_at f l.i turn)
     c.add_credits.ensures))
 
 pub returns : goal.returns

@@ -25,14 +25,14 @@ plus-requires c =
     let one = c.total_of in
     let h = sum_within (goal.at.plus-requires c).Start in
     op_fits ◌+ℤ◌ one.result c.total_of-2.result (total_of c.args.totals.now c.args.one) (total_of c.args.totals.now c.args.other)
-    one.type-inv c.total_of-2.type_inv one.ensures c.total_of-2.ensures (omega arith)
+    one.type_inv c.total_of-2.type_inv one.ensures c.total_of-2.ensures (omega arith)
 
 pub returns : goal.returns
 returns c =
     let one = c.total_of in
     let e = op_is ◌+ℤ◌ one.result c.total_of-2.result (total_of c.args.totals.now c.args.one)
     (total_of c.args.totals.now c.args.other)
-    one.type-inv c.total_of-2.type_inv one.ensures c.total_of-2.ensures
+    one.type_inv c.total_of-2.type_inv one.ensures c.total_of-2.ensures
     c.plus.result c.plus.type_inv c.plus.ensures
     in
     (e, subst⁻¹ (λ (z : ℤ). nat_abs z ≤ 2 * most_risk) e (sum_within (goal.at.returns c).Start))

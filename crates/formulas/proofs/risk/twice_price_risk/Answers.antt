@@ -23,43 +23,31 @@ still : (c : Start) → ℤ
 still c = total_of c.args.totals.now 1 +ℤ total_of c.args.totals.now 2
 
 paired_is : (c : After-both) → c.both.result ≡ paired c.before.before
+unfolding paired
 paired_is c = c.both.ensures.0
     ∙ ap (λ (p : ℕ). total_of c.args.totals.now c.args.active +ℤ total_of c.args.totals.now p) c.pair_of-paired.ensures
 
-unfolding paired
-
+within : (c : After-both-2) → nat_abs (paired (goal.at.minus-requires c).Start -ℤ still (goal.at.minus-requires c).Start) ≤ 4 * most_risk
 unfolding still
-
-unfolding still
-
-unfolding still paired
-
-abbrev start_of : After-both-2 → Start
-start_of c =
-    let start = c.before.before.before in
-    start
-
-within : (c : After-both-2) → nat_abs (paired (start_of c) -ℤ still (start_of c)) ≤ 4 * most_risk
 within c =
-    let s = start_of c in
-    let a : nat_abs (paired s) ≤ 2 * most_risk = subst (λ (z : ℤ). nat_abs z ≤ 2 * most_risk) (paired_is (goal.at.minus-requires c).After-both) c.both.ensures.1 in
-    let b : nat_abs (still s) ≤ 2 * most_risk = subst (λ (z : ℤ). nat_abs z ≤ 2 * most_risk) c.both-2.ensures.0 c.both-2.ensures.1 in
-    let h = abs_sub (paired s) (still s) in
+    let a : nat_abs (paired (goal.at.minus-requires c).Start) ≤ 2 * most_risk = subst (λ (z : ℤ). nat_abs z ≤ 2 * most_risk) (paired_is (goal.at.minus-requires c).After-both) c.both.ensures.1 in
+    let b : nat_abs (still (goal.at.minus-requires c).Start) ≤ 2 * most_risk = subst (λ (z : ℤ). nat_abs z ≤ 2 * most_risk) c.both-2.ensures.0 c.both-2.ensures.1 in
+    let h = abs_sub (paired (goal.at.minus-requires c).Start) (still (goal.at.minus-requires c).Start) in
     omega arith
 
 pub minus-requires : goal.minus-requires
+unfolding still
 minus-requires c =
-    let s = start_of c in
     let h = within c in
-    op_fits ◌-ℤ◌ c.both.result c.both-2.result (paired s) (still s) c.both.type_inv c.both-2.type_inv (paired_is (goal.at.minus-requires c).After-both)
+    op_fits ◌-ℤ◌ c.both.result c.both-2.result (paired (goal.at.minus-requires c).Start) (still (goal.at.minus-requires c).Start) c.both.type_inv c.both-2.type_inv (paired_is (goal.at.minus-requires c).After-both)
     c.both-2.ensures.0 (omega arith)
 
 pub returns : goal.returns
+unfolding still paired
 returns c =
-    let s = start_of (goal.at.returns c).After-both-2 in
-    let e = op_is ◌-ℤ◌ c.both.result c.both-2.result (paired s) (still s) c.both.type_inv c.both-2.type_inv (paired_is (goal.at.returns c).After-both)
+    let e = op_is ◌-ℤ◌ c.both.result c.both-2.result (paired (goal.at.returns c).Start) (still (goal.at.returns c).Start) c.both.type_inv c.both-2.type_inv (paired_is (goal.at.returns c).After-both)
     c.both-2.ensures.0
     c.minus.result c.minus.type_inv c.minus.ensures
     in
-    let r : c.or_zero.result ≡ or_zero (paired s -ℤ still s) = c.or_zero.ensures ∙ ap or_zero e in
-    (r, subst⁻¹ (λ (n : ℕ). n ≤ 4 * most_risk) r (le_trans (or_zero_abs (paired s -ℤ still s)) (within (goal.at.returns c).After-both-2)))
+    let r : c.or_zero.result ≡ or_zero (paired (goal.at.returns c).Start -ℤ still (goal.at.returns c).Start) = c.or_zero.ensures ∙ ap or_zero e in
+    (r, subst⁻¹ (λ (n : ℕ). n ≤ 4 * most_risk) r (le_trans (or_zero_abs (paired (goal.at.returns c).Start -ℤ still (goal.at.returns c).Start)) (within (goal.at.returns c).After-both-2)))

@@ -24,7 +24,7 @@ tick_is : (c : After-loss) →
     to_z w64 (of_z w64 c.per_tick-each.result) ≡ lots row *ℤ pos (value row)
 tick_is c =
     let tick = c.per_tick-each in
-    back tick.result (record { sfits = tick.type-inv }) ∙ tick.ensures.is
+    back tick.result (record { sfits = tick.type_inv }) ∙ tick.ensures.is
 
 loss-is : (c : After-loss) →
     let row = c.args.row.now in
@@ -53,7 +53,7 @@ loop-s-init c = (omega arith, start (converted_products c.args.f.raised c.args.f
 pub converted_product-more-requires : goal.converted_product-more-requires
 converted_product-more-requires c =
     let tick = c.per_tick-each in (
-      omega (arith, ap nat_abs (back tick.result (record { sfits = tick.type-inv })), tick.ensures.size),
+      omega (arith, ap nat_abs (back tick.result (record { sfits = tick.type_inv })), tick.ensures.size),
       (
         omega (arith, ap nat_abs (loss-is c), c.requires.1.0.loss_within (c.loop-s.s + 1) (omega arith) (omega arith)),
         (

@@ -18,16 +18,10 @@ use Rattle.formulas.proofs.RaisedLaws.{loss_most, raise_most}
 use Rattle.formulas.proofs.SignedCalls.{plus_fits, plus_is}
 use Rattle.account.specs.Products.{most_per_tick}
 use Rattle.formulas.proofs.rows.add_raised.Goals as goal
-use Rattle.formulas.proofs.rows.add_raised.Goals.{After-as_signed-more, After-loss, After-raise_of-raise, After-raised, In-loop-s, Start}
+use Rattle.formulas.proofs.rows.add_raised.Goals.{After-as_signed-more, After-loss, After-raised, In-loop-s}
 
 -- at the head of a turn: lots × value, its size, and the loss in the scenario
 module _ (c : In-loop-s) where
-  abbrev after-raise-of : After-raise_of-raise
-  after-raise-of = (goal.at.overflow_add-s c).After-raise_of-raise
-
-  abbrev s : Start
-  s = c.before.before.before.before.before.before.before
-
   abbrev k : ℕ
   k = c.loop-s.s
 
@@ -77,28 +71,20 @@ loss-is : (c : After-loss) → to_z w64 (of_z w64 c.loss.result) ≡ loss (row (
 loss-is c = back c.loss.result (record { sfits = c.loss.type_inv }) ∙ c.loss.ensures
 
 product_is : (c : After-raised) →
-    (after-raise-of (goal.at.overflow_mul-size c).In-loop-s).before.magnitude.result % 2 ^ 32 * c.raised.result
+    c.magnitude-size.result % 2 ^ 32 * c.raised.result
     ≡ nat_abs (each (goal.at.overflow_mul-size c).In-loop-s) * here (goal.at.overflow_mul-size c).In-loop-s
 product_is c =
     ap₂ ◌*◌ (size_is (goal.at.overflow_mul-size c).In-loop-s) (c.raised.ensures (each (goal.at.overflow_mul-size c).In-loop-s) (turn_is (goal.at.overflow_mul-size c).In-loop-s) (raise-is (goal.at.overflow_mul-size c).In-loop-s) ∙ ap (raised_by (each (goal.at.overflow_mul-size c).In-loop-s)) (loss-is (goal.at.overflow_mul-size c).After-loss))
 
-abbrev head_of : After-as_signed-more → In-loop-s
-head_of c =
-    let head = c.before.before.before in
-    head
-
 more_is : (c : After-as_signed-more) →
-    Sized most_raised (raised_products (each (head_of c)) (row (head_of c)) (k (head_of c))) c.as_signed-more.result
+    Sized most_raised (raised_products (each (goal.at.offset_bounds-sums-s c).In-loop-s) (row (goal.at.offset_bounds-sums-s c).In-loop-s) (k (goal.at.offset_bounds-sums-s c).In-loop-s)) c.as_signed-more.result
 more_is c =
     let is = c.as_signed-more.ensures ∙ ap pos (product_is (goal.at.offset_bounds-sums-s c).After-raised) in
-    record { is = is; size = subst (λ (z : ℤ). nat_abs z ≤ most_raised) (sym is) (product_most (head_of c)) }
+    record { is = is; size = subst (λ (z : ℤ). nat_abs z ≤ most_raised) (sym is) (product_most (goal.at.offset_bounds-sums-s c).In-loop-s) }
 
 pub loop-s-init : goal.loop-s-init
 loop-s-init c =
     (omega arith, start (raised_products (to_z w64 (of_z w64 c.args.each)) c.args.row.now) c.args.sums.now)
-
-pub overflow_add-s : goal.overflow_add-s
-overflow_add-s c = omega arith
 
 pub offset_bounds-turn-s : goal.offset_bounds-turn-s
 offset_bounds-turn-s c = omega (arith, c.loop-s-test.true)
@@ -117,45 +103,43 @@ pub as_signed-more-requires : goal.as_signed-more-requires
 as_signed-more-requires c = omega (arith, product_is c, product_most (goal.at.as_signed-more-requires c).In-loop-s)
 
 pub offset_bounds-sums-s : goal.offset_bounds-sums-s
-offset_bounds-sums-s c = omega (arith, below (head_of c))
+offset_bounds-sums-s c = omega (arith, below (goal.at.offset_bounds-sums-s c).In-loop-s)
 
 pub bounds-sums-s : goal.bounds-sums-s
-bounds-sums-s c = omega (arith, below (head_of c))
+bounds-sums-s c = omega (arith, below (goal.at.bounds-sums-s c).In-loop-s)
 
 pub plus-requires : goal.plus-requires
 plus-requires c =
-    let head = head_of (goal.at.plus-requires c).After-as_signed-more in
     let more = c.as_signed-more in
-    plus_fits (it head) more.result (it head) more.result ((most_rows - 1) * most_raised) most_raised
-    (sfits_abs (it head) (omega (arith, it-most head))) (record { sfits = more.type-inv }) refl refl (it-most head) (more_is (goal.at.plus-requires c).After-as_signed-more).size (omega arith)
+    plus_fits (it (goal.at.plus-requires c).In-loop-s) more.result (it (goal.at.plus-requires c).In-loop-s) more.result ((most_rows - 1) * most_raised) most_raised
+    (sfits_abs (it (goal.at.plus-requires c).In-loop-s) (omega (arith, it-most (goal.at.plus-requires c).In-loop-s))) (record { sfits = more.type_inv }) refl refl (it-most (goal.at.plus-requires c).In-loop-s) (more_is (goal.at.plus-requires c).After-as_signed-more).size (omega arith)
 
 pub offset_bounds-sums-s-in-loop-s : goal.offset_bounds-sums-s-in-loop-s
-offset_bounds-sums-s-in-loop-s c = omega (arith, below (head_of (goal.at.offset_bounds-sums-s-in-loop-s c).After-as_signed-more))
+offset_bounds-sums-s-in-loop-s c = omega (arith, below (goal.at.offset_bounds-sums-s-in-loop-s c).In-loop-s)
 
 pub bounds-sums-s-in-loop-s : goal.bounds-sums-s-in-loop-s
-bounds-sums-s-in-loop-s c = omega (arith, below (head_of (goal.at.bounds-sums-s-in-loop-s c).After-as_signed-more))
+bounds-sums-s-in-loop-s c = omega (arith, below (goal.at.bounds-sums-s-in-loop-s c).In-loop-s)
 
 pub overflow_add-s-in-loop-s : goal.overflow_add-s-in-loop-s
-overflow_add-s-in-loop-s c = omega (arith, below (head_of (goal.at.overflow_add-s-in-loop-s c).After-as_signed-more))
+overflow_add-s-in-loop-s c = omega (arith, below (goal.at.overflow_add-s-in-loop-s c).In-loop-s)
 
 pub loop-s-smaller : goal.loop-s-smaller
-loop-s-smaller c = omega (arith, below (head_of (goal.at.loop-s-smaller c).After-as_signed-more))
+loop-s-smaller c = omega (arith, below (goal.at.loop-s-smaller c).In-loop-s)
 
 pub loop-s-preserved : goal.loop-s-preserved
 loop-s-preserved c =
-    let head = head_of (goal.at.loop-s-preserved c).After-as_signed-more in
-    let at = head.before.loop in
-    let xs = (s head).args.sums.now in
+    let at = c.loop-s in
+    let xs = c.args.sums.now in
     let more = c.as_signed-more in
     let by = more_is (goal.at.loop-s-preserved c).After-as_signed-more in
-    let products = raised_products (each head) (row head) in
-    let sum = plus_is (it head) more.result (get_or xs at.s (pos 0)) (products at.s) ((most_rows - 1) * most_raised) most_raised
-    (sfits_abs (it head) (omega (arith, it-most head))) (record { sfits = more.type-inv }) (same head) by.is
-    (subst (λ (y : ℤ). nat_abs y ≤ (most_rows - 1) * most_raised) (same head) (it-most head)) (product_most head)
+    let products = raised_products (each (goal.at.loop-s-preserved c).In-loop-s) (row (goal.at.loop-s-preserved c).In-loop-s) in
+    let sum = plus_is (it (goal.at.loop-s-preserved c).In-loop-s) more.result (get_or xs at.s (pos 0)) (products at.s) ((most_rows - 1) * most_raised) most_raised
+    (sfits_abs (it (goal.at.loop-s-preserved c).In-loop-s) (omega (arith, it-most (goal.at.loop-s-preserved c).In-loop-s))) (record { sfits = more.type_inv }) (same (goal.at.loop-s-preserved c).In-loop-s) by.is
+    (subst (λ (y : ℤ). nat_abs y ≤ (most_rows - 1) * most_raised) (same (goal.at.loop-s-preserved c).In-loop-s) (it-most (goal.at.loop-s-preserved c).In-loop-s)) (product_most (goal.at.loop-s-preserved c).In-loop-s)
     c.plus.result c.plus.ensures in (
-      omega (arith, below head),
-      next at.s products xs at.sums (to_z w64 (of_z w64 c.plus.result)) at.inv.1
-          (omega (arith, below head, (s head).pre.1.1.as_many)) (back c.plus.result (record { sfits = c.plus.type_inv }) ∙ sum.is),
+      omega (arith, below (goal.at.loop-s-preserved c).In-loop-s),
+      next at.s products xs at.sums (to_z w64 (of_z w64 c.plus.result)) at.invariant.1
+          (omega (arith, below (goal.at.loop-s-preserved c).In-loop-s, c.requires.1.1.as_many)) (back c.plus.result (record { sfits = c.plus.type_inv }) ∙ sum.is),
     )
 
 pub returns : goal.returns

@@ -22,7 +22,7 @@ use Rattle.account.specs.Products.{most_per_tick}
 use Rattle.formulas.proofs.rows.add_raised.Given as goal
 
 abbrev pub invariant-loop-s : goal.invariant-loop-s
-invariant-loop-s l = (l.s ≤ scenario_count) × Added l.s (raised_products (to_z w64 l.each) l.row) l.initial.sums l.sums
+invariant-loop-s l = (l.s ≤ scenario_count) × Added l.s (raised_products l.each l.row) l.initial.sums l.sums
 
 abbrev pub decreases-loop-s : goal.decreases-loop-s
 decreases-loop-s l = scenario_count - l.s

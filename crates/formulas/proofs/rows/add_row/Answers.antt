@@ -24,7 +24,7 @@ use Rattle.formulas.proofs.AddedLaws.{same_added}
 use Rattle.formulas.proofs.PositionBounds.{product_most}
 use Rattle.formulas.proofs.RaisedLaws.{totals-added, totals-room, sums_added, sums_room}
 use Rattle.formulas.proofs.rows.add_row.Goals as goal
-use Rattle.formulas.proofs.rows.add_row.Goals.{After-currency-c, After-factors_of, After-per_tick-each, Else-c-ne0, Start}
+use Rattle.formulas.proofs.rows.add_row.Goals.{After-factors_of, After-per_tick-each, Else-c-ne0, Start}
 
 -- what a row comes to, by whether it is in the margin currency
 abbrev by-currency : List Record → Record → ℕ → Bool → ℤ
@@ -32,12 +32,6 @@ by-currency rates row s own = cond own (in_own s row) (converted (rate_for rates
 
 -- the factors are those of the row's currency
 module _ (c : After-factors_of) where
-  abbrev after-currency : After-currency-c
-  after-currency = (goal.at.add_converted-requires c).After-currency-c
-
-  abbrev start : Start
-  start = (goal.at.add_converted-requires c).Start
-
   abbrev row : Record
   row = c.args.row.now
 
@@ -97,13 +91,8 @@ module _ (s : Start) (us : List ℤ)
       )
 
 -- a row in the margin currency
-abbrev own_row : Else-c-ne0 → Record
-own_row c =
-    let start = c.before.before.before in
-    start.args.row.now
-
-own_is : (c : Else-c-ne0) → eqb (currency (own_row c)) 0 ≡ true
-own_is c = eq-eqb (currency (own_row c)) 0 (sym c.currency-c.ensures.0 ∙ c.if-c-ne0.false)
+own_is : (c : Else-c-ne0) → eqb (currency c.args.row.now) 0 ≡ true
+own_is c = eq-eqb (currency c.args.row.now) 0 (sym c.currency-c.ensures.0 ∙ c.if-c-ne0.false)
 
 -- lots × value, as its calls have it
 module _ (c : After-per_tick-each) where
@@ -122,33 +111,35 @@ factors_of-requires c =
 
 pub add_converted-requires : goal.add_converted-requires
 add_converted-requires c =
-    let s = start c in
-    (s.pre.0, (s.pre.1.0, (factors-fit c, s.pre.1.1.1.totals_most)))
+    (c.requires.0, (c.requires.1.0, (factors-fit c, c.requires.1.1.1.totals_most)))
 
 pub returns-then-c-ne0 : goal.returns-then-c-ne0
 returns-then-c-ne0 c =
-    let s = start (goal.at.returns-then-c-ne0 c).After-factors_of in
-    let row = s.args.row.now in
+    let row = c.args.row.now in
     let f = c.factors_of.result in
-    let unit = s.args.unit in
-    let small = (s.pre.1.1.0.each 0 (omega arith)).currency_within in
-    in-totals s c.add_converted.new.0
+    let unit = c.args.unit in
+    let small = (c.requires.1.1.0.each 0 (omega arith)).currency_within in
+    let both =
+    in-totals (goal.at.returns-then-c-ne0 c).Start c.add_converted.new.totals
     (λ held is.
-    same_added scenario_count (converted_products f.raised f.lowered unit row) (products held unit row) s.args.totals.now c.add_converted.new.0
+    same_added scenario_count (converted_products f.raised f.lowered unit row) (products held unit row) c.args.totals.now c.add_converted.new.totals
     (λ k.
     ap₂ (λ (up down : ℕ). half_away_to (converted_at up down (in_own (k + 1) row)) unit) (raised_is (goal.at.returns-then-c-ne0 c).After-factors_of held is small)
     (lowered_is (goal.at.returns-then-c-ne0 c).After-factors_of held is small)
     ∙ ap (λ (t : Bool). half_away_to (by-currency held row (k + 1) t) unit) (sym (other (goal.at.returns-then-c-ne0 c).After-factors_of)))
     c.add_converted.ensures)
+    in record { added = both.0; room = both.1 }
 
 pub returns-then-unit-ne1 : goal.returns-then-unit-ne1
 returns-then-unit-ne1 c =
     let row = c.args.row.now in
     let unit = c.args.unit in
-    in-totals (goal.at.returns-then-unit-ne1 c).Start c.add_own.new.0
+    let both =
+    in-totals (goal.at.returns-then-unit-ne1 c).Start c.add_own.new.totals
     (λ held is.
-    same_added scenario_count (own_products unit row) (products held unit row) c.args.totals.now c.add_own.new.0
+    same_added scenario_count (own_products unit row) (products held unit row) c.args.totals.now c.add_own.new.totals
     (λ k. ap (λ (t : Bool). half_away_to (by-currency held row (k + 1) t) unit) (sym (own_is (goal.at.returns-then-unit-ne1 c).Else-c-ne0))) c.add_own.ensures)
+    in record { added = both.0; room = both.1 }
 
 pub add_raised-requires : goal.add_raised-requires
 add_raised-requires c =
@@ -164,7 +155,7 @@ returns c =
     let unit = c.args.unit in
     let ts = c.args.totals.now in
     let xs = c.args.sums.now in
-    let ys = c.add_raised.new.0 in
+    let ys = c.add_raised.new.sums in
     let e = c.args.sizes in
     let z = each (goal.at.returns c).After-per_tick-each in
     let z-is : z ≡ lots row *ℤ pos (value row) = each_is (goal.at.returns c).After-per_tick-each ∙ c.per_tick-each.ensures.is in

@@ -19,7 +19,7 @@ use Rattle.formulas.proofs.RecordLaws.{count_is, record_at_lem}
 use Rattle.formulas.proofs.PositionBounds.{shorts_most}
 use Rattle.formulas.proofs.WalkLaws.{SoFar, start, next, shorts_room, finish}
 use Rattle.formulas.proofs.rows.add_totals.Goals as goal
-use Rattle.formulas.proofs.rows.add_totals.Goals.{In-loop-i, Start}
+use Rattle.formulas.proofs.rows.add_totals.Goals.{In-loop-i}
 
 -- the one row of a list
 one-rated : (t : Rates) (rates : List Record) (row : Record) → RatesOf rates t → RowRated rates row → RatedBy t (row ∷ [])
@@ -31,9 +31,6 @@ one-rated t rates row held is = record { rates = rates; held = held; each = λ k
 
 -- at the head of a turn: the row is within its ranges, and there is room for it
 module _ (c : In-loop-i) where
-  abbrev s : Start
-  s = c.before.before.before.before
-
   abbrev i : ℕ
   i = c.loop-i.i
 
@@ -83,8 +80,7 @@ loop-i-init c =
 
 pub add_row-sizes-requires : goal.add_row-sizes-requires
 add_row-sizes-requires c =
-    let start = s (goal.at.add_row-sizes-requires c).In-loop-i in
-    (start.pre.0, (row_within (goal.at.add_row-sizes-requires c).In-loop-i, (row_rated (goal.at.add_row-sizes-requires c).In-loop-i, sums-fit (goal.at.add_row-sizes-requires c).In-loop-i)))
+    (c.requires.0, (row_within (goal.at.add_row-sizes-requires c).In-loop-i, (row_rated (goal.at.add_row-sizes-requires c).In-loop-i, sums-fit (goal.at.add_row-sizes-requires c).In-loop-i)))
 
 pub overflow_add-shorts : goal.overflow_add-shorts
 overflow_add-shorts c =
@@ -92,7 +88,7 @@ overflow_add-shorts c =
 
 pub overflow_add-i : goal.overflow_add-i
 overflow_add-i c =
-    omega (arith, turn (goal.at.overflow_add-i c).In-loop-i, (s (goal.at.overflow_add-i c).In-loop-i).well-formed)
+    omega (arith, turn (goal.at.overflow_add-i c).In-loop-i, c.well_formed)
 
 pub loop-i-smaller : goal.loop-i-smaller
 loop-i-smaller c =
@@ -100,16 +96,15 @@ loop-i-smaller c =
 
 pub loop-i-preserved : goal.loop-i-preserved
 loop-i-preserved c =
-    let start = s (goal.at.loop-i-preserved c).In-loop-i in
     let at = c.loop-i in
     let by = c.add_row-sizes in
     let n = most_rows - length (records (file (goal.at.loop-i-preserved c).In-loop-i)) in (
       λ held is.
-          next held start.args.unit (records (file (goal.at.loop-i-preserved c).In-loop-i)) start.args.totals.now at.i (so_far (goal.at.loop-i-preserved c).In-loop-i)
-          (settled by.new.0 by.new.1.0 by.result) at.shorts _ (row (goal.at.loop-i-preserved c).In-loop-i)
-          (at.invariant.0 held is) (omega (arith, count_is (file (goal.at.loop-i-preserved c).In-loop-i), turn (goal.at.loop-i-preserved c).In-loop-i)) (row_is (goal.at.loop-i-preserved c).In-loop-i) (by.ensures.0 held is)
+          next held c.args.unit (records (file (goal.at.loop-i-preserved c).In-loop-i)) c.args.totals.now at.i (so_far (goal.at.loop-i-preserved c).In-loop-i)
+          (settled by.new.totals by.new.sums by.result) at.shorts _ (row (goal.at.loop-i-preserved c).In-loop-i)
+          (at.invariant.0 held is) (omega (arith, count_is (file (goal.at.loop-i-preserved c).In-loop-i), turn (goal.at.loop-i-preserved c).In-loop-i)) (row_is (goal.at.loop-i-preserved c).In-loop-i) (by.ensures.added held is)
           (ap (λ (m : ℕ). at.shorts + m) c.short_options-shorts.ensures),
-      wider_room (n + at.i + 1) (n + (at.i + 1)) _ _ _ (omega arith) (by.ensures.1 (n + at.i) at.invariant.1),
+      wider_room (n + at.i + 1) (n + (at.i + 1)) _ _ _ (omega arith) (by.ensures.room (n + at.i) at.invariant.1),
     )
 
 pub settle-requires : goal.settle-requires

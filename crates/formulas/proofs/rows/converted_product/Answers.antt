@@ -27,7 +27,7 @@ changed : (c : After-converted) →
 changed c =
     let t = c.times in
     let is : c.converted.result ≡ converted_at c.args.f.raised c.args.f.lowered (c.args.each *ℤ c.args.loss) =
-    seen (converted_at c.args.f.raised c.args.f.lowered) t.result (record { sfits = t.type-inv }) c.converted.ensures
+    seen (converted_at c.args.f.raised c.args.f.lowered) t.result (record { sfits = t.type_inv }) c.converted.ensures
     ∙ ap (converted_at c.args.f.raised c.args.f.lowered) (multiplied (goal.at.half_away_to-requires c).After-times).is in
     record { is = is; size = subst (λ (z : ℤ). nat_abs z ≤ most_conversion) (sym is) c.requires.1.1.1.1.1 }
 
@@ -57,7 +57,7 @@ returns c =
     let t = c.converted in
     let m = changed (goal.at.returns c).After-converted in
     let is : c.half_away_to.result ≡ half_away_to (converted_at c.args.f.raised c.args.f.lowered (c.args.each *ℤ c.args.loss)) c.args.unit =
-    seen (λ (z : ℤ). half_away_to z c.args.unit) t.result (record { sfits = t.type-inv }) c.half_away_to.ensures
+    seen (λ (z : ℤ). half_away_to z c.args.unit) t.result (record { sfits = t.type_inv }) c.half_away_to.ensures
     ∙ ap (λ (z : ℤ). half_away_to z c.args.unit) m.is
     in
     sized_back c.half_away_to.result (record { sfits = c.half_away_to.type_inv })
@@ -65,6 +65,6 @@ returns c =
       is = is;
       size =
           subst (λ (z : ℤ). nat_abs z ≤ most_product)
-          (sym (seen (λ (z : ℤ). half_away_to z c.args.unit) t.result (record { sfits = t.type-inv }) c.half_away_to.ensures))
+          (sym (seen (λ (z : ℤ). half_away_to z c.args.unit) t.result (record { sfits = t.type_inv }) c.half_away_to.ensures))
           (rounded c.args.unit t.result c.requires.1.1.0 m.size);
     })

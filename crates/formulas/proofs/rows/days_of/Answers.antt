@@ -12,12 +12,8 @@ use Rattle.record.specs.Bytes.{record_bytes}
 use Rattle.record.specs.Layout.{Record, day}
 use Rattle.account.specs.Records.{records}
 use Rattle.formulas.proofs.RecordLaws.{count_is, record_at_lem}
+use Rattle.formulas.proofs.rows.days_of.Invariants.{Noted}
 use Rattle.formulas.proofs.rows.days_of.Goals as goal
-
--- the days of the first j prompts
-record Noted (prompts : List Record) (days : List ℕ) (j : ℕ) : Type 0 where
-  as_many : length days ≡ prompt_places
-  noted : (k : ℕ) → k < j → get_or days k 0 ≡ day (get_or prompts k [])
 
 next : (prompts : List Record) (days : List ℕ) (j d : ℕ) → j < prompt_places → d ≡ day (get_or prompts j []) → Noted prompts days j
     → Noted prompts (set days j d) (j + 1)

@@ -16,6 +16,11 @@ use Rattle.account.specs.Records.{records}
 use Rattle.formulas.proofs.RecordLaws.{count_is, record_at_lem}
 use Rattle.formulas.proofs.rows.days_of.Given as goal
 
+-- the days of the first j prompts
+pub record Noted (prompts : List Record) (days : List ℕ) (j : ℕ) : Type 0 where
+  pub as_many : length days ≡ prompt_places
+  pub noted : (k : ℕ) → k < j → get_or days k 0 ≡ day (get_or prompts k [])
+
 abbrev pub invariant-loop-j : goal.invariant-loop-j
 invariant-loop-j l = (l.j ≤ length l.prompts / record_bytes) × Noted (records l.prompts) l.days l.j
 

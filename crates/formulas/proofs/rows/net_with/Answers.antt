@@ -27,4 +27,4 @@ returns c =
     let is = plus_is net more.result.0 net (row_delta row) most_delta most_row_delta (sfits_abs net (omega (arith, c.requires.1)))
     (sfits_abs more.result.0 (omega (arith, more.ensures.size))) refl more.ensures.is c.requires.1 (delta_most row c.requires.0)
     sum.result sum.ensures in
-    back sum.result (record { sfits = sum.type-inv }) ∙ is.is
+    back sum.result (record { sfits = sum.type_inv }) ∙ is.is

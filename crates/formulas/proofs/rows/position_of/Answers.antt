@@ -13,9 +13,9 @@ use Rattle.formulas.proofs.rows.position_of.Goals as goal
 pub returns : goal.returns
 returns c =
     let by = c.put_position-shorts in
-    let with-nets : List Delta → Position = λ nets. record { totals = record { 0 = by.new.0 }; nets = nets; shorts = by.result } in
+    let with-nets : List Delta → Position = λ nets. record { totals = record { 0 = by.new.totals }; nets = nets; shorts = by.result } in
     let same = sym c.deltas_from.ensures in record {
       is = λ held is. subst (λ (nets : List Delta). PositionOf held c.args.unit (records c.args.prompts.now) (records c.args.rows.now)
-          (with-nets nets)) same (by.ensures.0 held is);
-      most = subst (λ (nets : List Delta). Bounded most_rows (with-nets nets)) same by.ensures.1;
+          (with-nets nets)) same (by.ensures.is held is);
+      most = subst (λ (nets : List Delta). Bounded most_rows (with-nets nets)) same by.ensures.most;
     }

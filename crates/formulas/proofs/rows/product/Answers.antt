@@ -41,7 +41,7 @@ returns c =
     let t = c.times in
     let m = multiplied (goal.at.returns c).After-times in
     let is : c.half_away_to.result ≡ half_away_to (c.args.each *ℤ c.args.loss) c.args.unit =
-    seen (λ (z : ℤ). half_away_to z c.args.unit) t.result (record { sfits = t.type-inv }) c.half_away_to.ensures
+    seen (λ (z : ℤ). half_away_to z c.args.unit) t.result (record { sfits = t.type_inv }) c.half_away_to.ensures
     ∙ ap (λ (z : ℤ). half_away_to z c.args.unit) m.is
     in
     sized_back c.half_away_to.result (record { sfits = c.half_away_to.type_inv })

@@ -45,7 +45,7 @@ returns c =
     let known = c.days_of-days.ensures in
     let few : length prompts ≤ prompt_places = omega (arith, known.few, known.count_is) in record {
       is = λ held is. joined held c.args.unit prompts [] (records c.args.rows.now) c.days_of-days.result (position_in ts ns 0)
-          (position_in c.add_rows.new.0 c.add_rows.new.1.0 c.add_rows.result) known
+          (position_in c.add_rows.new.totals c.add_rows.new.nets c.add_rows.result) known
           (nothing_lent held c.args.unit prompts ts ns few c.requires.1.1.1.1.0 c.requires.1.1.1.1.1)
           (c.add_rows.ensures.added held is);
       most = c.add_rows.ensures.most;

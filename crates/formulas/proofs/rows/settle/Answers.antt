@@ -16,16 +16,10 @@ use Rattle.formulas.proofs.AddedLaws.{start, next}
 use Rattle.formulas.proofs.RaisedLaws.{settled_is}
 use Rattle.formulas.proofs.SignedCalls.{plus_fits, plus_is}
 use Rattle.formulas.proofs.rows.settle.Goals as goal
-use Rattle.formulas.proofs.rows.settle.Goals.{After-plus-arg-1, In-loop-s, Start}
+use Rattle.formulas.proofs.rows.settle.Goals.{After-plus-arg-1}
 
 -- a total as it was, and what is added to it
 module _ (c : After-plus-arg-1) where
-  abbrev head : In-loop-s
-  head = (goal.at.plus-requires c).In-loop-s
-
-  abbrev s : Start
-  s = (goal.at.plus-requires c).Start
-
   abbrev turn : ℕ
   turn = c.loop-s.s
 
@@ -89,16 +83,16 @@ loop-s-smaller c = omega (arith, below (goal.at.loop-s-smaller c).After-plus-arg
 
 pub loop-s-preserved : goal.loop-s-preserved
 loop-s-preserved c =
-    let i = (head (goal.at.loop-s-preserved c).After-plus-arg-1).before.loop in
-    let ts = (s (goal.at.loop-s-preserved c).After-plus-arg-1).args.totals.now in
+    let i = c.loop-s in
+    let ts = c.args.totals.now in
     let sum = plus_is (it (goal.at.loop-s-preserved c).After-plus-arg-1) c.unraised-more.result (get_or ts i.s (pos 0))
-    (unraised_at (s (goal.at.loop-s-preserved c).After-plus-arg-1).args.sums.now (s (goal.at.loop-s-preserved c).After-plus-arg-1).args.sizes i.s)
+    (unraised_at c.args.sums.now c.args.sizes i.s)
     (most_rows * most_product) (2 * (most_rows * most_raised)) (sfits_abs (it (goal.at.loop-s-preserved c).After-plus-arg-1) (omega (arith, it-most (goal.at.loop-s-preserved c).After-plus-arg-1))) (record { sfits = c.unraised-more.type_inv })
     (same (goal.at.loop-s-preserved c).After-plus-arg-1) (more_is (goal.at.loop-s-preserved c).After-plus-arg-1).is (subst (λ (z : ℤ). nat_abs z ≤ most_rows * most_product) (same (goal.at.loop-s-preserved c).After-plus-arg-1) (it-most (goal.at.loop-s-preserved c).After-plus-arg-1))
     (subst (λ (z : ℤ). nat_abs z ≤ (2 * (most_rows * most_raised))) (more_is (goal.at.loop-s-preserved c).After-plus-arg-1).is (more_is (goal.at.loop-s-preserved c).After-plus-arg-1).size) c.plus.result c.plus.ensures in (
       omega (arith, below (goal.at.loop-s-preserved c).After-plus-arg-1),
-      next i.s (unraised_at (s (goal.at.loop-s-preserved c).After-plus-arg-1).args.sums.now (s (goal.at.loop-s-preserved c).After-plus-arg-1).args.sizes) ts i.totals (to_z w64 (of_z w64 c.plus.result)) i.inv.1
-          (omega (arith, below (goal.at.loop-s-preserved c).After-plus-arg-1, (s (goal.at.loop-s-preserved c).After-plus-arg-1).requires.totals_most.as_many)) (back c.plus.result (record { sfits = c.plus.type_inv }) ∙ sum.is),
+      next i.s (unraised_at c.args.sums.now c.args.sizes) ts i.totals (to_z w64 (of_z w64 c.plus.result)) i.invariant.1
+          (omega (arith, below (goal.at.loop-s-preserved c).After-plus-arg-1, c.requires.totals_most.as_many)) (back c.plus.result (record { sfits = c.plus.type_inv }) ∙ sum.is),
     )
 
 pub returns : goal.returns

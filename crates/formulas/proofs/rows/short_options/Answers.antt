@@ -22,6 +22,6 @@ returns-then-row_type-eq0 c =
 pub returns-else-row_type-eq0 : goal.returns-else-row_type-eq0
 returns-else-row_type-eq0 c =
     let lots-read = c.lots in
-    seen short lots-read.result (record { sfits = lots-read.type-inv }) c.short-lots_short.ensures
+    seen short lots-read.result (record { sfits = lots-read.type_inv }) c.short-lots_short.ensures
     ∙ ap short lots-read.ensures
     ∙ of-option c.args.row.now (λ e. c.if-row_type-eq0.false (c.row_type.ensures.0 ∙ e))

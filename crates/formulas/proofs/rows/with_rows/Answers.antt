@@ -44,22 +44,20 @@ returns c =
     let days = c.args.days in
     let p = c.args.p in
     let by = c.add_rows-more in
-    let ts = by.new.0 in
-    let ns = by.new.1.0 in
+    let ts = by.new.totals in
+    let ns = by.new.nets in
     let n = by.result in
     let rated = c.requires.1.1.1.0 in
     let its : (held : List Record) → RatesOf held c.args.rates
     → WithRows held unit days (position_in p.totals.0 (deltas_in p.nets) 0) rows (position_in ts ns n) =
     λ held is. subst (λ (zs : List ℤ). WithRows held unit days (position_in p.totals.0 zs 0) rows (position_in ts ns n)) c.plain-nets.ensures
-    (by.ensures.0 held is) in
+    (by.ensures.added held is) in
     let with-nets : List Delta → Position = λ nets. record { totals = record { 0 = ts }; nets = nets; shorts = p.shorts + n } in
     let same = sym c.deltas_from.ensures in
     let added : (held : List Record) → RatesOf held c.args.rates → WithRows held unit days p rows (with-nets c.deltas_from.result) =
-    λ held is. subst (λ (nets : List Delta). WithRows held unit days p rows (with-nets nets)) same (with_lent held unit rows days p ts ns n (its held is)) in (
-      added,
-      (
-        λ held prompts earlier is known of. joined held unit prompts earlier rows days p (with-nets c.deltas_from.result) known of (added held is),
-        subst (λ (nets : List Delta). Bounded most_rows (with-nets nets)) same
-            (with_most rated.rates unit rows days p ts ns n (its rated.rates rated.held) c.requires.1.1.0 c.requires.1.1.1.1 by.ensures.1),
-      ),
-    )
+    λ held is. subst (λ (nets : List Delta). WithRows held unit days p rows (with-nets nets)) same (with_lent held unit rows days p ts ns n (its held is)) in record {
+      added = added;
+      more = λ held prompts earlier is known of. joined held unit prompts earlier rows days p (with-nets c.deltas_from.result) known of (added held is);
+      most = subst (λ (nets : List Delta). Bounded most_rows (with-nets nets)) same
+          (with_most rated.rates unit rows days p ts ns n (its rated.rates rated.held) c.requires.1.1.0 c.requires.1.1.1.1 by.ensures.most);
+    }

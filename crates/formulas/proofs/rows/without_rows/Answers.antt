@@ -34,13 +34,13 @@ with_rows-gone-requires c =
 pub totals_without-requires : goal.totals_without-requires
 totals_without-requires c = (
   c.requires.1.1.1.1.0.totals_most,
-  c.with_rows-gone.ensures.more.1.totals_most,
+  c.with_rows-gone.ensures.most.totals_most,
 )
 
 pub nets_without-requires : goal.nets_without-requires
 nets_without-requires c = (
   c.requires.1.1.1.1.0.nets_most,
-  c.with_rows-gone.ensures.more.1.nets_most,
+  c.with_rows-gone.ensures.most.nets_most,
 )
 
 pub overflow_sub-result : goal.overflow_sub-result
@@ -60,6 +60,6 @@ returns c =
     let g = c.with_rows-gone in
     let f = c.flat in
     λ held before rated is.
-    taken_away held c.args.unit c.args.days (records c.args.rows.now) before c.args.p f.result g.result _ is (g.ensures.0 held rated)
+    taken_away held c.args.unit c.args.days (records c.args.rows.now) before c.args.p f.result g.result _ is (g.ensures.added held rated)
     (f.ensures held c.args.unit [] zero-le) c.requires.1.1.1.1.0 c.requires.1.0.0 c.totals_without.ensures
     c.nets_without.ensures refl

@@ -14,7 +14,7 @@ returns-then-paid c =
     let r = c.answer_uses in
     λ whole question h.
     subst⁻¹ (λ (t : Bool). (r.result ≡ answer_over whole (question_of t question) (length out))
-    × (r.new.1.1.0 ≡ after_over whole (question_of t question) out))
+    × (r.new.out ≡ after_over whole (question_of t question) out))
     c.if-paid.true (r.ensures whole question h)
 
 pub returns : goal.returns
@@ -23,5 +23,5 @@ returns c =
     let r = c.answer_book in
     λ whole question h.
     subst⁻¹ (λ (t : Bool). (r.result ≡ answer_over whole (question_of t question) (length out))
-    × (r.new.1.1.0 ≡ after_over whole (question_of t question) out))
+    × (r.new.out ≡ after_over whole (question_of t question) out))
     c.if-paid.false (r.ensures whole question h)

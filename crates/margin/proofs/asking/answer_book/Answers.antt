@@ -50,7 +50,7 @@ returns c =
       c.if-out-book_count.false,
     )
     in
-    accepted_with _ (book whole question) out c.put_asked.new.0 (length (book whole question))
+    accepted_with _ (book whole question) out c.put_asked.new.out (length (book whole question))
     (asked_many whole (Book question) (length out) h.asked_is enough) refl
     (c.put_asked.ensures ∙ ap (sets out 0) (book_same whole question c.args.records c.args.asking h)
     ∙ sets_front (book whole question) out enough)

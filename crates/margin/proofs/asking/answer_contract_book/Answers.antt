@@ -41,12 +41,12 @@ many c =
     (ps.ensures j n st h w) (ss.ensures j n st h w) c.requires.1.1
 
 -- the net deltas, one for each place of a prompt
-nets-long : (c : After-put_net_deltas) → length c.put_net_deltas.new.0 ≡ prompt_places
-nets-long c = ap length (sym (deltas_again c.put_net_deltas.new.0)) ∙ (c.put_net_deltas.ensures [] 1).places
+nets-long : (c : After-put_net_deltas) → length c.put_net_deltas.new.nets ≡ prompt_places
+nets-long c = ap length (sym (deltas_again c.put_net_deltas.new.nets)) ∙ (c.put_net_deltas.ensures [] 1).places
 
 -- the spread steps accept the contract's prompts and spreads
 room : (c : After-put_net_deltas) →
-    BookRoom (records c.prompts_part-prompts.result.now) c.put_net_deltas.new.0 (records c.spreads_part-spreads.result.now)
+    BookRoom (records c.prompts_part-prompts.result.now) c.put_net_deltas.new.nets (records c.spreads_part-spreads.result.now)
 room c =
     let st = c.requires.0 in
     let j = account_in c.args.account.now in
@@ -57,13 +57,13 @@ room c =
     let ss = c.spreads_part-spreads in
     let rs = c.rows_part-rows in
     nets_room (account_of c.args.morning.now c.args.noon.now) st.lawful n h ps.result.now ss.result.now
-    (ps.ensures j n st h w) (ss.ensures j n st h w) rs.result.now (rs.ensures j n st h w) c.put_net_deltas.new.0 (c.put_net_deltas.ensures [] 1)
+    (ps.ensures j n st h w) (ss.ensures j n st h w) rs.result.now (rs.ensures j n st h w) c.put_net_deltas.new.nets (c.put_net_deltas.ensures [] 1)
 
 -- and their book is the one that is asked for
 is-book : (c : After-put_net_deltas) →
     BookIs (account_of c.args.morning.now c.args.noon.now) c.args.c
     (steps (map interprompt (records c.spreads_part-spreads.result.now)))
-    (opens_with (records c.prompts_part-prompts.result.now) c.put_net_deltas.new.0)
+    (opens_with (records c.prompts_part-prompts.result.now) c.put_net_deltas.new.nets)
 is-book c =
     let st = c.requires.0 in
     let j = account_in c.args.account.now in
@@ -74,7 +74,7 @@ is-book c =
     let ss = c.spreads_part-spreads in
     let rs = c.rows_part-rows in
     nets_book (account_of c.args.morning.now c.args.noon.now) st.lawful n h ps.result.now ss.result.now
-    (ps.ensures j n st h w) (ss.ensures j n st h w) rs.result.now (rs.ensures j n st h w) c.put_net_deltas.new.0 (c.put_net_deltas.ensures [] 1)
+    (ps.ensures j n st h w) (ss.ensures j n st h w) rs.result.now (rs.ensures j n st h w) c.put_net_deltas.new.nets (c.put_net_deltas.ensures [] 1)
     c.requires.1.1
 
 pub contract_count-requires : goal.contract_count-requires
@@ -125,6 +125,6 @@ run_contract-requires c =
 pub returns : goal.returns
 returns c =
     let is = is-book (goal.at.returns c).After-put_net_deltas in
-    book-written (account_of c.args.morning.now c.args.noon.now) c.args.c _ _ c.args.out.now c.run_contract.new.0 is
+    book-written (account_of c.args.morning.now c.args.noon.now) c.args.c _ _ c.args.out.now c.run_contract.new.out is
     (omega (arith, ap length is.is, many (goal.at.returns c).After-spreads_part-spreads, c.contract_count.ensures, c.if-out-contract_count.false))
     c.run_contract.ensures

@@ -21,17 +21,17 @@ answered account a left lent q q' e = subst⁻¹ (λ (x : Question). (a ≡ answ
 pub returns-in-Figures : goal.returns-in-Figures
 returns-in-Figures c =
     let r = c.answer_figures in
-    answered (account_of c.args.morning.now c.args.noon.now) r.result r.new.1.1.1.0 c.args.out.now _ _
-    c.enum_told-1.given.1 r.ensures
+    answered (account_of c.args.morning.now c.args.noon.now) r.result r.new.out c.args.out.now _ _
+    c.in-Figures.is r.ensures
 
 pub returns-in-Book : goal.returns-in-Book
 returns-in-Book c =
     let r = c.answer_question in
-    answered (account_of c.args.morning.now c.args.noon.now) r.result r.new.1.1.1.1.1.0 c.args.out.now _ _
-    c.question-1.given.1 r.ensures
+    answered (account_of c.args.morning.now c.args.noon.now) r.result r.new.out c.args.out.now _ _
+    c.in-Book.is r.ensures
 
 pub returns-in-Uses : goal.returns-in-Uses
 returns-in-Uses c =
     let r = c.answer_question-in-Uses in
-    answered (account_of c.args.morning.now c.args.noon.now) r.result r.new.1.1.1.1.1.0 c.args.out.now _ _
-    c.question-in-Uses-1.given.1 r.ensures
+    answered (account_of c.args.morning.now c.args.noon.now) r.result r.new.out c.args.out.now _ _
+    c.in-Uses.is r.ensures

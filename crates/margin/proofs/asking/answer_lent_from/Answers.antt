@@ -20,16 +20,16 @@ answered account a left lent q q' e = subst⁻¹ (λ (x : Question). (a ≡ answ
 pub returns-in-Figures : goal.returns-in-Figures
 returns-in-Figures c =
     let r = c.figures_answer in
-    λ whole t. answered whole r.result r.new.1.1.1.1.0 c.args.out.now _ _ c.enum_told-1.given.1 (r.ensures whole t)
+    λ whole t. answered whole r.result r.new.out c.args.out.now _ _ c.in-Figures.is (r.ensures whole t)
 
 pub returns-in-Book : goal.returns-in-Book
 returns-in-Book c =
     let r = c.question_answer in
-    λ whole t. answered whole r.result r.new.1.1.1.1.1.1.0 c.args.out.now _ _
-    c.question-1.given.1 (r.ensures whole t)
+    λ whole t. answered whole r.result r.new.out c.args.out.now _ _
+    c.in-Book.is (r.ensures whole t)
 
 pub returns-in-Uses : goal.returns-in-Uses
 returns-in-Uses c =
     let r = c.question_answer-in-Uses in
-    λ whole t. answered whole r.result r.new.1.1.1.1.1.1.0 c.args.out.now _ _
-    c.question-in-Uses-1.given.1 (r.ensures whole t)
+    λ whole t. answered whole r.result r.new.out c.args.out.now _ _
+    c.in-Uses.is (r.ensures whole t)

@@ -13,34 +13,26 @@ use Rattle.margin.specs.Questions.{numbers_for}
 use Rattle.margin.specs.declared.asking.Question.TheVariants.{Book}
 use Rattle.margin.proofs.AskedLaws.{asked_is}
 use Rattle.margin.proofs.asking.book_need.Goals as goal
-use Rattle.margin.proofs.asking.book_need.Goals.{After-is_asked, Start}
-
-abbrev start_of : After-is_asked → Start
-start_of c =
-    let start = c.before.before.before in
-    start
+use Rattle.margin.proofs.asking.book_need.Goals.{After-is_asked}
 
 -- whether the account answers the question
 asked : (c : After-is_asked) →
-    let s = start_of c in
-    answered (account_of s.args.morning.now s.args.noon.now) s.args.question ≡ c.is_asked.result
+    answered (account_of c.args.morning.now c.args.noon.now) c.args.question ≡ c.is_asked.result
 asked c =
-    let s = start_of c in
-    sym (c.is_asked.ensures ∙ asked_is (account_of s.args.morning.now s.args.noon.now) s.pre.lawful (account_in s.args.account.now).counts
-    s.pre.places.counts s.args.question)
+    sym (c.is_asked.ensures ∙ asked_is (account_of c.args.morning.now c.args.noon.now) c.requires.lawful (account_in c.args.account.now).counts
+    c.requires.places.counts c.args.question)
 
 pub returns-then-not-is_asked : goal.returns-then-not-is_asked
 returns-then-not-is_asked c =
-    let s = start_of (goal.at.returns-then-not-is_asked c).After-is_asked in
-    let a = account_of s.args.morning.now s.args.noon.now in (
-      sym (ap (λ (t : Bool). cond t (length (numbers_for a (Book s.args.question))) 0)
-          (asked (goal.at.returns-then-not-is_asked c).After-is_asked ∙ not-true c.is_asked.result c.if-not-is_asked.true)),
+    let a = account_of c.args.morning.now c.args.noon.now in (
+      sym (ap (λ (t : Bool). cond t (length (numbers_for a (Book c.args.question))) 0)
+          (asked (goal.at.returns-then-not-is_asked c).After-is_asked ∙ c.if-not-is_asked.true)),
       omega arith,
     )
 
 pub sizes_over-sizes-requires : goal.sizes_over-sizes-requires
 sizes_over-sizes-requires c =
-    ((start_of (goal.at.sizes_over-sizes-requires c).After-is_asked).requires, asked (goal.at.sizes_over-sizes-requires c).After-is_asked ∙ not-false c.is_asked.result c.if-not-is_asked.false)
+    (c.requires, asked (goal.at.sizes_over-sizes-requires c).After-is_asked ∙ c.if-not-is_asked.false)
 
 pub overflow_mul-result : goal.overflow_mul-result
 overflow_mul-result c = omega (arith, c.sizes_over-sizes.ensures.prompts_few)
@@ -56,10 +48,9 @@ overflow_add-result-2 c = omega (arith, c.sizes_over-sizes.ensures.prompts_few, 
 
 pub returns : goal.returns
 returns c =
-    let s = start_of (goal.at.returns c).After-is_asked in
-    let a = account_of s.args.morning.now s.args.noon.now in
+    let a = account_of c.args.morning.now c.args.noon.now in
     let r = c.sizes_over-sizes in (
-      sym (ap (λ (t : Bool). cond t (length (numbers_for a (Book s.args.question))) 0)
-          (asked (goal.at.returns c).After-is_asked ∙ not-false c.is_asked.result c.if-not-is_asked.false) ∙ r.ensures.book_has),
+      sym (ap (λ (t : Bool). cond t (length (numbers_for a (Book c.args.question))) 0)
+          (asked (goal.at.returns c).After-is_asked ∙ c.if-not-is_asked.false) ∙ r.ensures.book_has),
       omega (arith, r.ensures.prompts_few, r.ensures.spreads_few),
     )

@@ -27,13 +27,13 @@ returns-in-Figures c =
     let a = account_of c.args.morning.now c.args.noon.now in
     let n = c.figures_count in
     let few = few_contracts c.args.morning.now c.args.noon.now (account_in c.args.account.now) c.requires in
-    needed a n.result _ _ c.enum_told-1.given.1
+    needed a n.result _ _ c.in-Figures.is
     (sym (figures-length a ∙ omega (arith, n.ensures, c.requires.places.contracts)), omega (arith, n.ensures, few))
 
 pub returns-in-Book : goal.returns-in-Book
 returns-in-Book c =
-    needed (account_of c.args.morning.now c.args.noon.now) c.book_need.result _ _ c.question-1.given.1 c.book_need.ensures
+    needed (account_of c.args.morning.now c.args.noon.now) c.book_need.result _ _ c.in-Book.is c.book_need.ensures
 
 pub returns-in-Uses : goal.returns-in-Uses
 returns-in-Uses c =
-    needed (account_of c.args.morning.now c.args.noon.now) c.uses_need.result _ _ c.question-in-Uses-1.given.1 c.uses_need.ensures
+    needed (account_of c.args.morning.now c.args.noon.now) c.uses_need.result _ _ c.in-Uses.is c.uses_need.ensures

@@ -11,18 +11,12 @@ use Rattle.margin.specs.code.Asked.{SizesOf}
 use Rattle.margin.proofs.AskedLaws.{asked_small}
 use Rattle.margin.proofs.NeedLaws.{table_sizes, contract_sizes}
 use Rattle.margin.proofs.asking.sizes_over.Goals as goal
-use Rattle.margin.proofs.asking.sizes_over.Goals.{Else-question-eq-TABLE, Start}
-
-abbrev start_of : Else-question-eq-TABLE → Start
-start_of c =
-    let start = c.before.before.before in
-    start
+use Rattle.margin.proofs.asking.sizes_over.Goals.{Else-question-eq-TABLE}
 
 -- the question is a contract's number
-small : (c : Else-question-eq-TABLE) → (start_of c).args.question ≤ most_contract
+small : (c : Else-question-eq-TABLE) → c.args.question ≤ most_contract
 small c =
-    let s = start_of c in
-    asked_small (account_of s.args.morning.now s.args.noon.now) s.pre.0.lawful s.args.question s.pre.1 c.if-question-eq-TABLE.false
+    asked_small (account_of c.args.morning.now c.args.noon.now) c.requires.0.lawful c.args.question c.requires.1 c.if-question-eq-TABLE.false
 
 pub returns-then-question-eq-TABLE : goal.returns-then-question-eq-TABLE
 returns-then-question-eq-TABLE c =
@@ -39,8 +33,7 @@ overflow_add-question-2 c = omega (arith, small (goal.at.overflow_add-question-2
 
 pub returns : goal.returns
 returns c =
-    let s = start_of (goal.at.returns c).Else-question-eq-TABLE in
-    subst₂ (SizesOf (account_of s.args.morning.now s.args.noon.now) s.args.question) (sym c.part_total-2.ensures)
+    subst₂ (SizesOf (account_of c.args.morning.now c.args.noon.now) c.args.question) (sym c.part_total-2.ensures)
     (sym c.part_total-3.ensures)
-    (contract_sizes s.args.morning.now s.args.noon.now (account_in s.args.account.now) s.pre.0 s.args.question s.pre.1
+    (contract_sizes c.args.morning.now c.args.noon.now (account_in c.args.account.now) c.requires.0 c.args.question c.requires.1
     c.if-question-eq-TABLE.false)

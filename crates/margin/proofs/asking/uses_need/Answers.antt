@@ -16,21 +16,14 @@ use Rattle.margin.specs.Questions.{numbers_for}
 use Rattle.margin.specs.declared.asking.Question.TheVariants.{Uses}
 use Rattle.margin.proofs.AskedLaws.{asked_is}
 use Rattle.margin.proofs.asking.uses_need.Goals as goal
-use Rattle.margin.proofs.asking.uses_need.Goals.{After-is_asked, After-sizes_over-sizes, Start}
-
-abbrev start_of : After-is_asked → Start
-start_of c =
-    let start = c.before.before.before in
-    start
+use Rattle.margin.proofs.asking.uses_need.Goals.{After-is_asked, After-sizes_over-sizes}
 
 -- whether the account answers the question
 asked : (c : After-is_asked) →
-    let s = start_of c in
-    answered (account_of s.args.morning.now s.args.noon.now) s.args.question ≡ c.is_asked.result
+    answered (account_of c.args.morning.now c.args.noon.now) c.args.question ≡ c.is_asked.result
 asked c =
-    let s = start_of c in
-    sym (c.is_asked.ensures ∙ asked_is (account_of s.args.morning.now s.args.noon.now) s.pre.lawful (account_in s.args.account.now).counts
-    s.pre.places.counts s.args.question)
+    sym (c.is_asked.ensures ∙ asked_is (account_of c.args.morning.now c.args.noon.now) c.requires.lawful (account_in c.args.account.now).counts
+    c.requires.places.counts c.args.question)
 
 -- the product of two sizes within their bounds
 few : (c : After-sizes_over-sizes) → c.sizes_over-sizes.result.spreads * (2 * c.sizes_over-sizes.result.prompts) ≤ longest_uses
@@ -41,16 +34,15 @@ few c =
 
 pub returns-then-not-is_asked : goal.returns-then-not-is_asked
 returns-then-not-is_asked c =
-    let s = start_of (goal.at.returns-then-not-is_asked c).After-is_asked in
-    let a = account_of s.args.morning.now s.args.noon.now in (
-      sym (ap (λ (t : Bool). cond t (length (numbers_for a (Uses s.args.question))) 0)
-          (asked (goal.at.returns-then-not-is_asked c).After-is_asked ∙ not-true c.is_asked.result c.if-not-is_asked.true)),
+    let a = account_of c.args.morning.now c.args.noon.now in (
+      sym (ap (λ (t : Bool). cond t (length (numbers_for a (Uses c.args.question))) 0)
+          (asked (goal.at.returns-then-not-is_asked c).After-is_asked ∙ c.if-not-is_asked.true)),
       omega arith,
     )
 
 pub sizes_over-sizes-requires : goal.sizes_over-sizes-requires
 sizes_over-sizes-requires c =
-    ((start_of (goal.at.sizes_over-sizes-requires c).After-is_asked).requires, asked (goal.at.sizes_over-sizes-requires c).After-is_asked ∙ not-false c.is_asked.result c.if-not-is_asked.false)
+    (c.requires, asked (goal.at.sizes_over-sizes-requires c).After-is_asked ∙ c.if-not-is_asked.false)
 
 pub overflow_mul-result : goal.overflow_mul-result
 overflow_mul-result c = omega (arith, c.sizes_over-sizes.ensures.prompts_few)
@@ -60,10 +52,9 @@ overflow_mul-result-2 c = omega (arith, few (goal.at.overflow_mul-result-2 c).Af
 
 pub returns : goal.returns
 returns c =
-    let s = start_of (goal.at.returns c).After-is_asked in
-    let a = account_of s.args.morning.now s.args.noon.now in
+    let a = account_of c.args.morning.now c.args.noon.now in
     let r = c.sizes_over-sizes in (
-      sym (ap (λ (t : Bool). cond t (length (numbers_for a (Uses s.args.question))) 0)
-          (asked (goal.at.returns c).After-is_asked ∙ not-false c.is_asked.result c.if-not-is_asked.false) ∙ r.ensures.uses_have),
+      sym (ap (λ (t : Bool). cond t (length (numbers_for a (Uses c.args.question))) 0)
+          (asked (goal.at.returns c).After-is_asked ∙ c.if-not-is_asked.false) ∙ r.ensures.uses_have),
       few (goal.at.returns c).After-sizes_over-sizes,
     )

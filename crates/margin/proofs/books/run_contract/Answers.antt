@@ -36,4 +36,4 @@ returns-then-spreads-lt-RECORD_BYTES c =
 pub put_contract-requires : goal.put_contract-requires
 put_contract-requires c =
     let book = c.put_contract_book-touched.ensures in
-    (c.requires.0, (c.requires.1.0, (c.requires.1.1, (book.0, book.1 refl))))
+    (c.requires.0, (c.requires.1.0, (c.requires.1.1, (book.book, book.touched refl))))

@@ -34,7 +34,7 @@ put_contract_book-touched-requires c =
 pub lend_book-requires : goal.lend_book-requires
 lend_book-requires c =
     let book = c.put_contract_book-touched.ensures in
-    (c.requires.0, (nets-long (goal.at.lend_book-requires c).Start, (room (goal.at.lend_book-requires c).Start, (book.0, λ enough. book.1 (le-leb _ _ enough)))))
+    (c.requires.0, (nets-long (goal.at.lend_book-requires c).Start, (room (goal.at.lend_book-requires c).Start, (book.book, λ enough. book.touched (le-leb _ _ enough)))))
 
 pub line_in-requires : goal.line_in-requires
 line_in-requires c =

@@ -62,7 +62,7 @@ contract_in-requires c =
     let n = c.contract_number-c.result in
     let w = c.whereabouts_of-w.ensures in
     let r = c.put_position-shorts in
-    let p = position_in r.new.0 r.new.1.0 r.result in
+    let p = position_in r.new.totals r.new.nets r.result in
     let u = c.unit in
     let ss = c.spreads_part-spreads in
     let rs = c.rows_part-rows in
@@ -71,7 +71,7 @@ contract_in-requires c =
       small (goal.at.contract_in-requires c).After-contract_number-c,
       fit_here a st.lawful n (small (goal.at.contract_in-requires c).After-contract_number-c) own.result.now ps.result.now rs.result.now
           (own.ensures j n st (small (goal.at.contract_in-requires c).After-contract_number-c) w) (ps.ensures j n st (small (goal.at.contract_in-requires c).After-contract_number-c) w) (rs.ensures j n st (small (goal.at.contract_in-requires c).After-contract_number-c) w)
-          c.args.rates c.requires.1.1 u.result u.ensures.0 p (r.ensures.0 (rates_of a) c.requires.1.1) r.ensures.1
+          c.args.rates c.requires.1.1 u.result u.ensures.0 p (r.ensures.is (rates_of a) c.requires.1.1) r.ensures.most
           ss.result.now (ss.ensures j n st (small (goal.at.contract_in-requires c).After-contract_number-c) w),
     )
 
@@ -83,7 +83,7 @@ returns c =
     let n = c.contract_number-c.result in
     let w = c.whereabouts_of-w.ensures in
     let r = c.put_position-shorts in
-    let p = position_in r.new.0 r.new.1.0 r.result in
+    let p = position_in r.new.totals r.new.nets r.result in
     let u = c.unit in
     let ss = c.spreads_part-spreads in
     let rs = c.rows_part-rows in
@@ -93,12 +93,12 @@ returns c =
     let listed = listed_at c.args.morning.now c.args.noon.now j st c.args.i c.requires.1.0 in
     let placed : Bool → List ℤ → ℕ → List ℤ = λ paid l q. lent_place (width_of paid) q (after_over a (question_of paid q)) l in
     let lent =
-    its.ensures.1 a
+    its.ensures.lent a
     (subst⁻¹ (λ (x : ℕ). ContractIn a x n (records ps.result.now) (records ss.result.now) p)
     (c.record_total.ensures ∙ st.places.all)
     (contract_in a st.lawful n (small (goal.at.returns c).After-contract_number-c) own.result.now ps.result.now rs.result.now
     (own.ensures j n st (small (goal.at.returns c).After-contract_number-c) w) (ps.ensures j n st (small (goal.at.returns c).After-contract_number-c) w) (rs.ensures j n st (small (goal.at.returns c).After-contract_number-c) w)
-    c.args.rates c.requires.1.1 u.result u.ensures.0 p (r.ensures.0 (rates_of a) c.requires.1.1) r.ensures.1
+    c.args.rates c.requires.1.1 u.result u.ensures.0 p (r.ensures.is (rates_of a) c.requires.1.1) r.ensures.most
     ss.result.now (ss.ensures j n st (small (goal.at.returns c).After-contract_number-c) w)
     c.args.i listed (number (goal.at.returns c).After-contract_number-c)))
     in
@@ -106,9 +106,9 @@ returns c =
       line =
           line_here a st.lawful n (small (goal.at.returns c).After-contract_number-c) own.result.now ps.result.now rs.result.now
           (own.ensures j n st (small (goal.at.returns c).After-contract_number-c) w) (ps.ensures j n st (small (goal.at.returns c).After-contract_number-c) w) (rs.ensures j n st (small (goal.at.returns c).After-contract_number-c) w)
-          c.args.rates c.requires.1.1 u.result u.ensures.0 p (r.ensures.0 (rates_of a) c.requires.1.1) r.ensures.1
+          c.args.rates c.requires.1.1 u.result u.ensures.0 p (r.ensures.is (rates_of a) c.requires.1.1) r.ensures.most
           ss.result.now (ss.ensures j n st (small (goal.at.returns c).After-contract_number-c) w)
-          c.args.i listed (number (goal.at.returns c).After-contract_number-c) its.result its.ensures.0;
+          c.args.i listed (number (goal.at.returns c).After-contract_number-c) its.result its.ensures.line;
       book = lent.0 ∙ ap (placed false c.args.books.now) (number (goal.at.returns c).After-contract_number-c);
       paid = lent.1 ∙ ap (placed true c.args.uses.now) (number (goal.at.returns c).After-contract_number-c);
     }

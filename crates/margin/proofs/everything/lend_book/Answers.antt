@@ -41,6 +41,6 @@ returns c =
     λ whole h.
     let after = after_over whole (Book k) in
     lent_enough longest_book k after o _ (omega (arith, c.if-out-lt-ALL_BOOKS.false))
-    (put-place longest_book (longest_book * k) o r.new.0 after
-    (book-after whole k (steps (map interprompt (records spreads))) (opens_with (records prompts) nets) _ r.new.0 h
+    (put-place longest_book (longest_book * k) o r.new.out after
+    (book-after whole k (steps (map interprompt (records spreads))) (opens_with (records prompts) nets) _ r.new.out h
     (le_trans (contract_long prompts spreads nets c.requires.1.0 c.requires.1.1.0) (search rules)) r.ensures))

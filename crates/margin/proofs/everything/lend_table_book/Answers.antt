@@ -50,5 +50,5 @@ returns c =
     λ whole is.
     let after = after_over whole (Book table_question) in
     lent_enough longest_book table_question after o _ (omega (arith, c.if-out-lt-ALL_BOOKS.false))
-    (put-place longest_book (longest_book * table_question) o r.new.0 after
-    (book-after whole table_question (steps_of c.args.table) (open_of (prompts (goal.at.returns c).Start)) _ r.new.0 is (le_trans (few (goal.at.returns c).Start) (search rules)) r.ensures))
+    (put-place longest_book (longest_book * table_question) o r.new.out after
+    (book-after whole table_question (steps_of c.args.table) (open_of (prompts (goal.at.returns c).Start)) _ r.new.out is (le_trans (few (goal.at.returns c).Start) (search rules)) r.ensures))

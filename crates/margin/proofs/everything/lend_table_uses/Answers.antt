@@ -47,7 +47,7 @@ returns c =
     let r = c.answer_uses in
     λ whole over n.
     lent_enough longest_uses table_question (after_over whole (Uses table_question)) o _ (omega (arith, c.if-out-lt-ALL_USES.false))
-    (put-place longest_uses (longest_uses * table_question) o r.new.1.1.0 (after_over whole (Uses table_question))
+    (put-place longest_uses (longest_uses * table_question) o r.new.out (after_over whole (Uses table_question))
     (r.ensures whole table_question
     (record {
       lawful = over.lawful;

@@ -36,6 +36,6 @@ returns c =
     let few : length (book_by [] ps) ≤ longest_book =
     omega (arith, c.requires.0, by_length [] ps, many, length-take-le n c.args.nets.now (omega (arith, c.requires.0, c.requires.1))) in
     lent_enough longest_book table_question after o _ (omega (arith, c.if-out-lt-ALL_BOOKS.false))
-    (put-place longest_book (longest_book * table_question) o r.new.0 after
-    (book-after whole table_question [] ps _ r.new.0 (unspread_book whole h.lawful h.none) (le_trans few (search rules))
+    (put-place longest_book (longest_book * table_question) o r.new.out after
+    (book-after whole table_question [] ps _ r.new.out (unspread_book whole h.lawful h.none) (le_trans few (search rules))
     (r.ensures ps h.nets_are)))

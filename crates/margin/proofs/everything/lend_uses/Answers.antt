@@ -44,4 +44,4 @@ returns c =
     asked_by_lem whole c.args.count k (records c.args.prompts.now) (records c.args.spreads.now) p a.result c.requires.0 h
     (a.ensures p (sym c.deltas_from.ensures)) in
     lent_enough longest_uses k after o _ (omega (arith, c.if-out-lt-ALL_USES.false))
-    (put-place longest_uses (longest_uses * k) o r.new.1.1.0 after (r.ensures whole k is).1)
+    (put-place longest_uses (longest_uses * k) o r.new.out after (r.ensures whole k is).1)

@@ -1,5 +1,3 @@
--- A contract after the other, by what its rows come to, for every account that the positions tell of.
--- Assumes nothing.
 use mathlib.Core.Path.{◌≡◌, sym, ap, ◌∙◌}
 use mathlib.Core.Bool.{Bool, true, false}
 use mathlib.Core.List.{List, []}
@@ -21,79 +19,49 @@ use Rattle.margin.proofs.BesideLaws.{fits, line_is, contract_beside}
 use Rattle.margin.proofs.StandLaws.{few_contracts, number_at, listed_at, own_number}
 use Rattle.margin.proofs.WalkedLaws.{WalkedTo, walked_start, walked_next, walked_all}
 use Rattle.margin.proofs.everything.place_from.Goals as goal
-use Rattle.margin.proofs.everything.place_from.Goals.{After-contract_from-line, After-contract_number-c, After-contract_total-count, After-place_line-margin, At-loop-i, Start}
-
-abbrev at-start : After-contract_total-count → Start
-at-start c =
-    let start = c.before.before.before in
-    start
+use Rattle.margin.proofs.everything.place_from.Goals.{After-contract_number-c, After-contract_total-count, At-loop-i}
 
 -- as many contracts as are listed, at most sixteen
 counted : (c : After-contract_total-count) →
-    let s = at-start c in
-    (whole : List Record) → Besides (account_of s.args.morning.now s.args.noon.now) whole → c.contract_total-count.result ≡ length (contracts_of whole)
+    (whole : List Record) → Besides (account_of c.args.morning.now c.args.noon.now) whole → c.contract_total-count.result ≡ length (contracts_of whole)
 counted c whole b =
-    let s = at-start c in
-    c.contract_total-count.ensures ∙ s.pre.0.places.contracts ∙ sym (ap length b.contracts)
+    c.contract_total-count.ensures ∙ c.requires.0.places.contracts ∙ sym (ap length b.contracts)
 
 few : (c : After-contract_total-count) → c.contract_total-count.result ≤ most_contracts
 few c =
-    let s = at-start c in
-    omega (arith, c.contract_total-count.ensures, few_contracts s.args.morning.now s.args.noon.now (account_in s.args.account.now) s.pre.0)
+    omega (arith, c.contract_total-count.ensures, few_contracts c.args.morning.now c.args.noon.now (account_in c.args.account.now) c.requires.0)
 
 -- what is known of one of the accounts when a turn begins
 known : (c : At-loop-i) →
-    let s = at-start c.before.before in
-    WalkedTo s.pre.1.0.whole c.contract_total-count.result s.args.figures.now s.args.books.now s.args.uses.now c.loop-i.i
+    WalkedTo c.requires.1.0.whole c.contract_total-count.result c.args.figures.now c.args.books.now c.args.uses.now c.loop-i.i
     c.loop-i.figures c.loop-i.books c.loop-i.uses c.loop-i.tiers c.loop-i.nets c.loop-i.units c.loop-i.prices c.loop-i.sizes c.loop-i.total
 known c =
-    let x = (at-start c.before.before).pre.1.0 in
+    let x = c.requires.1.0 in
     c.loop-i.invariant x.whole x.told
 
--- the turn's contract is listed, and has this number
-abbrev at-total : After-contract_number-c → After-contract_total-count
-at-total c =
-    let after-total = c.before.before.before in
-    after-total
-
-within : (c : After-contract_number-c) → c.loop-i.i < (account_in (at-start (at-total c)).args.account.now).contracts
-within c = omega (arith, c.loop-i-test.true, (at-total c).contract-total.ensures)
+within : (c : After-contract_number-c) → c.loop-i.i < (account_in c.args.account.now).contracts
+within c = omega (arith, c.loop-i-test.true, c.contract_total-count.ensures)
 
 number : (c : After-contract_number-c) →
-    let s = at-start (at-total c) in
-    c.contract_number-c.result ≡ contract (get_or (contracts_of (account_of s.args.morning.now s.args.noon.now)) c.loop-i.i [])
+    c.contract_number-c.result ≡ contract (get_or (contracts_of (account_of c.args.morning.now c.args.noon.now)) c.loop-i.i [])
 number c =
-    let s = at-start (at-total c) in
-    number_at s.args.morning.now s.args.noon.now (account_in s.args.account.now) s.pre.0 c.loop-i.i (within c)
+    number_at c.args.morning.now c.args.noon.now (account_in c.args.account.now) c.requires.0 c.loop-i.i (within c)
     c.contract_number-c.result c.contract_number-c.ensures
 
 small : (c : After-contract_number-c) → c.contract_number-c.result ≤ most_contract
 small c =
-    let s = at-start (at-total c) in
-    let m = s.args.morning.now in
-    let n = s.args.noon.now in
+    let m = c.args.morning.now in
+    let n = c.args.noon.now in
     omega (
       arith,
       number c,
-      own_number (account_of m n) s.pre.0.lawful c.loop-i.i
-          (listed_at m n (account_in s.args.account.now) s.pre.0 c.loop-i.i (within c)),
+      own_number (account_of m n) c.requires.0.lawful c.loop-i.i
+          (listed_at m n (account_in c.args.account.now) c.requires.0 c.loop-i.i (within c)),
     )
-
--- what was known when the turn began
-abbrev at-contract : After-place_line-margin → After-contract_from-line
-at-contract c =
-    let after-contract = c.before.before.before.before.before.before.before.before.before in
-    after-contract
-
-abbrev at-number : After-place_line-margin → After-contract_number-c
-at-number c =
-    let after-number = (at-contract c).before.before.before.before in
-    after-number
 
 pub loop-i-init : goal.loop-i-init
 loop-i-init c =
-    let s = at-start c in
-    λ whole t. walked_start s.pre.1.1.1
+    λ whole t. walked_start c.requires.1.1.1
 
 pub offset_bounds-positions-c : goal.offset_bounds-positions-c
 offset_bounds-positions-c c = let h = small c in omega arith
@@ -103,29 +71,26 @@ bounds-positions-c c = let h = small c in omega arith
 
 pub contract_from-line-requires : goal.contract_from-line-requires
 contract_from-line-requires c =
-    let s = at-start (at-total (goal.at.contract_from-line-requires c).After-contract_number-c) in
-    let x = s.pre.1.0 in
+    let x = c.requires.1.0 in
     let k = c.contract_number-c.result in
     let h = small (goal.at.contract_from-line-requires c).After-contract_number-c in (
-      s.pre.0,
+      c.requires.0,
       (
         h,
-        fits (account_of s.args.morning.now s.args.noon.now) x.whole x.told.beside k (get_or s.args.t4.at k no_position)
+        fits (account_of c.args.morning.now c.args.noon.now) x.whole x.told.beside k (get_or c.args.positions.at k no_position)
             (x.told.positions.each k h),
       ),
     )
 
 pub place_line-margin-requires : goal.place_line-margin-requires
 place_line-margin-requires c =
-    let after-total = at-total (goal.at.place_line-margin-requires c).After-contract_number-c in
-    let s = at-start after-total in
     let is = (known (goal.at.place_line-margin-requires c).At-loop-i).table in
     let l = c.loop-i in
     let taken = c.loop-i-test.true in
-    let h = few after-total in (
+    let h = few (goal.at.place_line-margin-requires c).After-contract_total-count in (
       omega (arith, taken),
       (
-        omega (arith, taken, s.pre.1.1.0, after-total.contract-total.ensures, is.same),
+        omega (arith, taken, c.requires.1.1.0, c.contract_total-count.ensures, is.same),
         (
           c.contract_from-line.ensures.line.within,
           (
@@ -138,55 +103,46 @@ place_line-margin-requires c =
 
 pub overflow_add-total : goal.overflow_add-total
 overflow_add-total c =
-    let after_test_lem = (at-number (goal.at.overflow_add-total c).After-place_line-margin).before in
-    let h = few after_test_lem.before.before in
-    let small = (known after_test_lem.before).small in
+    let h = few (goal.at.overflow_add-total c).After-contract_total-count in
+    let small = (known (goal.at.overflow_add-total c).At-loop-i).small in
     let margin = c.place_line-margin.ensures.margin.1 in
-    omega (arith, after_test_lem.loop-test.taken)
+    omega (arith, c.loop-i-test.true)
 
 pub overflow_add-i : goal.overflow_add-i
 overflow_add-i c =
-    let after_test_lem = (at-number (goal.at.overflow_add-i c).After-place_line-margin).before in
-    let h = few after_test_lem.before.before in
-    omega (arith, after_test_lem.loop-test.taken)
+    let h = few (goal.at.overflow_add-i c).After-contract_total-count in
+    omega (arith, c.loop-i-test.true)
 
 pub loop-i-smaller : goal.loop-i-smaller
 loop-i-smaller c =
-    let after_test_lem = (at-number (goal.at.loop-i-smaller c).After-place_line-margin).before in
-    omega (arith, after_test_lem.loop-test.taken)
+    omega (arith, c.loop-i-test.true)
 
 pub loop-i-preserved : goal.loop-i-preserved
 loop-i-preserved c =
-    let after-contract = at-contract (goal.at.loop-i-preserved c).After-place_line-margin in
-    let after-number = at-number (goal.at.loop-i-preserved c).After-place_line-margin in
-    let after_test_lem = after-number.before in
-    let after-loop = after_test_lem.before in
-    let after-total = at-total after-number in
-    let s = at-start after-total in
-    let a = account_of s.args.morning.now s.args.noon.now in
-    let l = after-loop.loop in
-    let k = after-number.contract-number.result in
-    let p = get_or s.args.t4.at k no_position in
+    let a = account_of c.args.morning.now c.args.noon.now in
+    let l = c.loop-i in
+    let k = c.contract_number-c.result in
+    let p = get_or c.args.positions.at k no_position in
     let r = c.place_line-margin in
-    let its = after-contract.contract-from in
-    let taken = after_test_lem.loop-test.taken in
+    let its = c.contract_from-line in
+    let taken = c.loop-i-test.true in
     λ whole t.
     let b = t.beside in
-    let all = counted after-total whole b in
+    let all = counted (goal.at.loop-i-preserved c).After-contract_total-count whole b in
     let listed : l.i < length (contracts_of whole) = omega (arith, taken, all) in
     let here : k ≡ contract (get_or (contracts_of whole) l.i []) =
-    number after-number ∙ ap (λ (rs : List Record). contract (get_or rs l.i [])) (sym b.contracts) in
-    let at = t.positions.each k (small after-number) in
-    let lent = its.ensures.1 whole (contract_beside a whole b k p at l.i listed here _ t.positions.records_are (small after-number)) in
+    number (goal.at.loop-i-preserved c).After-contract_number-c ∙ ap (λ (rs : List Record). contract (get_or rs l.i [])) (sym b.contracts) in
+    let at = t.positions.each k (small (goal.at.loop-i-preserved c).After-contract_number-c) in
+    let lent = its.ensures.lent whole (contract_beside a whole b k p at l.i listed here _ t.positions.records_are (small (goal.at.loop-i-preserved c).After-contract_number-c)) in
     let placed : Bool → List ℤ → ℕ → List ℤ = λ paid out q. lent_place (width_of paid) q (after_over whole (question_of paid q)) out in
-    walked_next b.lawful all (few after-total) (l.inv whole t) taken
-    (omega (arith, s.pre.1.1.0, after-total.contract-total.ensures))
+    walked_next b.lawful all (few (goal.at.loop-i-preserved c).After-contract_total-count) (l.invariant whole t) taken
+    (omega (arith, c.requires.1.1.0, c.contract_total-count.ensures))
     (record {
-      line = line_is a whole b k p at l.i listed here its.result its.ensures.0;
+      line = line_is a whole b k p at l.i listed here its.result its.ensures.line;
       book = lent.0 ∙ ap (placed false l.books) here;
       paid = lent.1 ∙ ap (placed true l.uses) here;
     })
-    c.books-1.given c.uses-1.given r.ensures.0 c.figures-1.given r.ensures.1
+    c.books-1.given c.uses-1.given r.ensures.placed c.figures-1.given r.ensures.margin
 
 pub overflow_mul-count : goal.overflow_mul-count
 overflow_mul-count c =
@@ -195,12 +151,11 @@ overflow_mul-count c =
 
 pub put-requires : goal.put-requires
 put-requires c =
-    let s = at-start (goal.at.put-requires c).After-contract_total-count in
     let is = known (goal.at.put-requires c).At-loop-i in
     let h = few (goal.at.put-requires c).After-contract_total-count in
     let small = is.small in
     let within = is.table.within in
-    (omega (arith, s.pre.1.1.0, c.contract_total-count.ensures, is.table.same), omega arith)
+    (omega (arith, c.requires.1.1.0, c.contract_total-count.ensures, is.table.same), omega arith)
 
 pub shape_of-figures : goal.shape_of-figures
 shape_of-figures c =

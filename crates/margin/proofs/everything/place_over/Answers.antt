@@ -1,5 +1,3 @@
--- A contract after the other: its book and uses in their places, and its line in its own; and the total behind them.
--- Assumes nothing.
 use mathlib.Core.Path.{◌≡◌, sym, ◌∙◌}
 use Prim.Native.Nat.{◌-◌, ◌≤◌}
 use native.Mathlib.Omega.{arith}
@@ -12,7 +10,7 @@ use Rattle.account.specs.Parts.{contracts_of}
 use Rattle.margin.proofs.StandLaws.{few_contracts}
 use Rattle.margin.proofs.WalkedLaws.{WalkedTo, walked_start, walked_next, walked_all}
 use Rattle.margin.proofs.everything.place_over.Goals as goal
-use Rattle.margin.proofs.everything.place_over.Goals.{After-contract_over-line, After-contract_total-count, After-place_line-margin}
+use Rattle.margin.proofs.everything.place_over.Goals.{After-contract_total-count}
 
 -- as many contracts as are listed, at most sixteen
 counted : (c : After-contract_total-count) →
@@ -23,12 +21,6 @@ counted c =
 few : (c : After-contract_total-count) → c.contract_total-count.result ≤ most_contracts
 few c =
     omega (arith, c.contract_total-count.ensures, few_contracts c.args.morning.now c.args.noon.now (account_in c.args.account.now) c.requires.0)
-
--- what was known when the turn began
-abbrev at-contract : After-place_line-margin → After-contract_over-line
-at-contract c =
-    let after-contract = c.before.before.before.before.before.before.before.before.before in
-    after-contract
 
 pub loop-i-init : goal.loop-i-init
 loop-i-init c =
@@ -59,36 +51,27 @@ place_line-margin-requires c =
 
 pub overflow_add-total : goal.overflow_add-total
 overflow_add-total c =
-    let after_test_lem = (at-contract (goal.at.overflow_add-total c).After-place_line-margin).before.before.before in
-    let after-loop = after_test_lem.before in
-    let h = few after-loop.before.before in
-    let small = after-loop.loop.inv.small in
+    let h = few (goal.at.overflow_add-total c).After-contract_total-count in
+    let small = c.loop-i.invariant.small in
     let margin = c.place_line-margin.ensures.margin.1 in
-    omega (arith, after_test_lem.loop-test.taken)
+    omega (arith, c.loop-i-test.true)
 
 pub overflow_add-i : goal.overflow_add-i
 overflow_add-i c =
-    let after_test_lem = (at-contract (goal.at.overflow_add-i c).After-place_line-margin).before.before.before in
-    let h = few after_test_lem.before.before.before in
-    omega (arith, after_test_lem.loop-test.taken)
+    let h = few (goal.at.overflow_add-i c).After-contract_total-count in
+    omega (arith, c.loop-i-test.true)
 
 pub loop-i-smaller : goal.loop-i-smaller
 loop-i-smaller c =
-    let after_test_lem = (at-contract (goal.at.loop-i-smaller c).After-place_line-margin).before.before.before in
-    omega (arith, after_test_lem.loop-test.taken)
+    omega (arith, c.loop-i-test.true)
 
 pub loop-i-preserved : goal.loop-i-preserved
 loop-i-preserved c =
-    let after-contract = at-contract (goal.at.loop-i-preserved c).After-place_line-margin in
-    let after_test_lem = after-contract.before.before.before in
-    let after-loop = after_test_lem.before in
-    let after-total = after-loop.before.before in
-    let s = after-total.before.before.before in
     let r = c.place_line-margin in
-    walked_next s.pre.0.lawful (counted after-total) (few after-total) after-loop.loop.inv
-    after_test_lem.loop-test.taken (omega (arith, s.pre.1.0, after-total.contract-total.ensures))
-    after-contract.contract-over.ensures c.books-1.given c.uses-1.given r.ensures.0 c.figures-1.given
-    r.ensures.1
+    walked_next c.requires.0.lawful (counted (goal.at.loop-i-preserved c).After-contract_total-count) (few (goal.at.loop-i-preserved c).After-contract_total-count) c.loop-i.invariant
+    c.loop-i-test.true (omega (arith, c.requires.1.0, c.contract_total-count.ensures))
+    c.contract_over-line.ensures c.books-1.given c.uses-1.given r.ensures.placed c.figures-1.given
+    r.ensures.margin
 
 pub overflow_mul-count : goal.overflow_mul-count
 overflow_mul-count c =

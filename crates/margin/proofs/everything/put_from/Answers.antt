@@ -15,12 +15,7 @@ use Rattle.margin.proofs.QuestionLaws.{figures-length}
 use Rattle.margin.proofs.WalkedLaws.{walked_tabled, walked_everything}
 use borrow.Author.Rules.{rules}
 use Rattle.margin.proofs.everything.put_from.Goals as goal
-use Rattle.margin.proofs.everything.put_from.Goals.{After-contract_total, After-figures-1, After-place_from, Start}
-
-abbrev at-start : After-place_from → Start
-at-start c =
-    let start = c.before.before.before.before.before.before.before.before.before.before.before in
-    start
+use Rattle.margin.proofs.everything.put_from.Goals.{After-contract_total, Start}
 
 -- an account that they tell of
 abbrev Told : Start → List Record → Type 0
@@ -30,27 +25,17 @@ Told s whole = PositionsTell (account_of s.args.morning.now s.args.noon.now) s.a
 room : (s : Start) (whole : List Record) → Told s whole → length (figures whole) ≤ length s.args.figures.now
 room s whole t = omega (arith, figures-length whole, s.requires.1.1, ap length t.beside.contracts, s.requires.0.places.contracts)
 
--- what was known where the contracts are in their places
-abbrev at-figures : After-contract_total → After-figures-1
-at-figures c =
-    let after-figures = c.before.before.before.before in
-    after-figures
-
 -- the contracts of such an account are in their places
 tabled : (c : After-contract_total) →
-    let after-place = (at-figures c).before in
-    let s = at-start after-place in
-    let ends = after-place.place-from.last.1.1.1.1 in
-    (whole : List Record) → Told s whole
-    → TabledBy c.part.result.now c.contract_total.result s.args.positions.records ends.0 ends.1.1.1.0
-    ends.1.1.1.1.0 ends.1.1.1.1.1.0 ends.1.1.1.1.1.1.0 ends.1.1.1.1.1.1.1.0 whole
+    let ends = c.place_from.new in
+    (whole : List Record) → Told c.before.before.before.before.before.before.before.before.before.before.before.before.before.before.before.before.before whole
+    → TabledBy c.part.result.now c.contract_total.result c.args.positions.records ends.figures ends.tiers
+    ends.nets ends.units ends.prices ends.sizes whole
 tabled c whole t =
-    let after-place = (at-figures c).before in
-    let s = at-start after-place in
     let bytes = c.part.result.now in
-    walked_tabled (room s whole t) (at-figures c).figures.given (after-place.place-from.ensures whole t) t.beside.lawful
-    (c.contract_total.ensures ∙ s.pre.0.places.contracts ∙ sym (ap length t.beside.contracts)) t.positions.records_are
-    (entries_beside (account_of s.args.morning.now s.args.noon.now) whole t.beside bytes c.part.ensures)
+    walked_tabled (room c.before.before.before.before.before.before.before.before.before.before.before.before.before.before.before.before.before whole t) c.figures-1.given (c.place_from.ensures whole t) t.beside.lawful
+    (c.contract_total.ensures ∙ c.requires.0.places.contracts ∙ sym (ap length t.beside.contracts)) t.positions.records_are
+    (entries_beside (account_of c.args.morning.now c.args.noon.now) whole t.beside bytes c.part.ensures)
 
 pub place_from-requires : goal.place_from-requires
 place_from-requires c =
@@ -58,18 +43,13 @@ place_from-requires c =
 
 pub table_over-requires : goal.table_over-requires
 table_over-requires c =
-    let after-figures = at-figures (goal.at.table_over-requires c).After-contract_total in
-    let s = at-start after-figures.before in
-    let x = s.pre.1.0 in (
-      omega (arith, s.pre.1.1, c.contract_total.ensures, after-figures.figures.given),
+    let x = c.requires.1.0 in (
+      omega (arith, c.requires.1.1, c.contract_total.ensures, c.figures-1.given),
       record { whole = x.whole; is = tabled (goal.at.table_over-requires c).After-contract_total x.whole x.told },
     )
 
 pub returns : goal.returns
 returns c =
-    let after-figures = at-figures (goal.at.returns c).After-contract_total in
-    let after-place = after-figures.before in
-    let s = at-start after-place in
     λ whole t.
-    walked_everything (room s whole t) after-figures.figures.given (after-place.place-from.ensures whole t)
+    walked_everything (room (goal.at.returns c).Start whole t) c.figures-1.given (c.place_from.ensures whole t)
     c.books-1.given c.uses-1.given (c.table_over.ensures whole (tabled (goal.at.returns c).After-contract_total whole t))

@@ -29,23 +29,7 @@ use Rattle.margin.specs.Questions.{after_over}
 use Rattle.margin.specs.declared.asking.Question.TheVariants.{Uses}
 use Rattle.margin.proofs.LentLaws.{lent_same, no_uses}
 use Rattle.margin.proofs.everything.table_over.Goals as goal
-use Rattle.margin.proofs.everything.table_over.Goals.{After-intercontract_table-table, After-put_book, After-put_formed, Start}
-
--- what was known where the table is made, where it is when the book is put, and when the figures are
-abbrev at-start : After-intercontract_table-table → Start
-at-start c =
-    let start = c.before.before.before in
-    start
-
-abbrev at_table : After-put_book → After-intercontract_table-table
-at_table c =
-    let after_table = c.before.before.before.before.before in
-    after_table
-
-abbrev at-book : After-put_formed → After-put_book
-at-book c =
-    let after-book = c.before.before.before.before in
-    after-book
+use Rattle.margin.proofs.everything.table_over.Goals.{After-intercontract_table-table, After-put_book, Start}
 
 -- an account over whose contracts the walk has gone
 abbrev Is : Start → List Record → Type 0
@@ -54,12 +38,9 @@ Is s whole =
     s.args.units.now s.args.prices.now s.args.sizes.now whole
 
 abbrev tiers : After-intercontract_table-table → Prompts
-tiers c = prompts_in (at-start c).args.count (at-start c).args.tiers.now (at-start c).args.nets.now
+tiers c = prompts_in c.args.count c.args.tiers.now c.args.nets.now
 
-module _ (t : After-intercontract_table-table) (whole : List Record) (is : Is (at-start t) whole) where
-  abbrev s : Start
-  s = t.before.before.before.before
-
+module _ (t : After-intercontract_table-table) (whole : List Record) (is : Is t.before.before.before.before whole) where
   tiered : TiersFrom (length (contracts_of whole)) (lines_for whole) (tiers t)
   tiered =
       tabled_tiers whole is.lawful t.args.figures.now t.args.tiers.now t.args.nets.now t.args.units.now
@@ -78,21 +59,17 @@ module _ (t : After-intercontract_table-table) (whole : List Record) (is : Is (a
 
 -- there is one
 accepted-one : (t : After-intercontract_table-table) → sound (tiers t) t.intercontract_table-table.result ≡ true
-accepted-one t = let x = (at-start t).requires.1 in accepted t x.whole x.is
+accepted-one t = let x = t.requires.1 in accepted t x.whole x.is
 
 -- the numbers that they formed
 formed : (c : After-put_book) →
-    let s = at-start (at_table c) in
-    let ends = c.put_book.new.1.1.1.1 in
-    (whole : List Record) → Is s whole → CreditedIn whole s.args.count s.args.entries.now s.args.units.now s.args.prices.now
-    s.args.sizes.now ends.0 ends.1.0 s.args.figures.now
+    (whole : List Record) → Is c.before.before.before.before.before.before.before.before.before whole → CreditedIn whole c.args.count c.args.entries.now c.args.units.now c.args.prices.now
+    c.args.sizes.now c.put_book.new.first c.put_book.new.second c.args.figures.now
 formed c whole is =
-    let t = at_table c in
-    let s = at-start t in
-    let ends = c.put_book.new.1.1.1.1 in
-    tabled_formed whole is.lawful s.args.figures.now s.args.tiers.now s.args.nets.now s.args.units.now
-    s.args.prices.now s.args.sizes.now is.tabled _ is.count_is _ is.part t.intercontract-table.result
-    t.intercontract-table.ensures ends.0 ends.1.0 ends.1.1.0 ends.1.1.1.0 c.put_book.ensures
+    let ends = c.put_book.new in
+    tabled_formed whole is.lawful c.args.figures.now c.args.tiers.now c.args.nets.now c.args.units.now
+    c.args.prices.now c.args.sizes.now is.tabled _ is.count_is _ is.part c.intercontract_table-table.result
+    c.intercontract_table-table.ensures ends.first ends.second ends.used ends.unused c.put_book.ensures
 
 pub lend_unspread-requires : goal.lend_unspread-requires
 lend_unspread-requires c =
@@ -125,33 +102,27 @@ put_book-requires c =
 
 pub put_formed-requires : goal.put_formed-requires
 put_formed-requires c =
-    let s = at-start (at_table (goal.at.put_formed-requires c).After-put_book) in
-    let x = s.pre.1 in
-    (record { whole = x.whole; is = formed (goal.at.put_formed-requires c).After-put_book x.whole x.is }, s.pre.0)
+    let x = c.requires.1 in
+    (record { whole = x.whole; is = formed (goal.at.put_formed-requires c).After-put_book x.whole x.is }, c.requires.0)
 
 pub lend_table_book-requires : goal.lend_table_book-requires
 lend_table_book-requires c =
-    let after-book = at-book (goal.at.lend_table_book-requires c).After-put_formed in
-    let t = at_table after-book in
-    let i = (at-start t).pre.1.is.tabled in
-    (accepted-one t, ((i.tiers_places, i.nets_places), after-book.put-book.ensures))
+    let i = c.requires.1.is.tabled in
+    (accepted-one (goal.at.lend_table_book-requires c).After-intercontract_table-table, ((i.tiers_places, i.nets_places), c.put_book.ensures))
 
 pub lend_table_uses-requires : goal.lend_table_uses-requires
 lend_table_uses-requires c =
-    let t = at_table (at-book (goal.at.lend_table_uses-requires c).After-put_formed) in
-    let x = (at-start t).pre.1 in
-    record { whole = x.whole; over = over t x.whole x.is }
+    let x = c.requires.1 in
+    record { whole = x.whole; over = over (goal.at.lend_table_uses-requires c).After-intercontract_table-table x.whole x.is }
 
 pub returns : goal.returns
 returns c =
-    let after-book = at-book (goal.at.returns c).After-put_formed in
-    let t = at_table after-book in
     λ whole is.
     record {
-      figures-after = c.put_formed.ensures whole (formed after-book whole is);
+      figures-after = c.put_formed.ensures whole (formed (goal.at.returns c).After-put_book whole is);
       book =
           c.lend_table_book.ensures whole
-          (run_book whole is.lawful (all_for whole) is.tabled.lines _ is.part (tiers t) t.intercontract-table.result (tiered t whole is)
-          t.intercontract-table.ensures);
-      paid = c.lend_table_uses.ensures whole (over t whole is) is.records_are;
+          (run_book whole is.lawful (all_for whole) is.tabled.lines _ is.part (tiers (goal.at.returns c).After-intercontract_table-table) c.intercontract_table-table.result (tiered (goal.at.returns c).After-intercontract_table-table whole is)
+          c.intercontract_table-table.ensures);
+      paid = c.lend_table_uses.ensures whole (over (goal.at.returns c).After-intercontract_table-table whole is) is.records_are;
     }

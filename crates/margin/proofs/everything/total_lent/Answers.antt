@@ -30,5 +30,5 @@ returns c =
     let a = account_of c.args.morning.now c.args.noon.now in
     let some : length (figures a) ≤ longest_figures = omega (arith, few (goal.at.returns c).Start, figures-length a, c.requires.places.contracts) in
     c.total_in.ensures
-    ∙ total_last a (replicate longest_figures (pos 0)) f.new.1.1.1.0 (figures_each * (account_in c.args.account.now).contracts)
+    ∙ total_last a (replicate longest_figures (pos 0)) f.new.figures (figures_each * (account_in c.args.account.now).contracts)
     (f.ensures.figures-after ∙ figures_front a (replicate longest_figures (pos 0)) some) some (omega (arith, c.requires.places.contracts))

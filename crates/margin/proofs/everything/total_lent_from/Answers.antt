@@ -34,6 +34,6 @@ returns c =
     let some : length (figures whole) ≤ longest_figures =
     omega (arith, few (goal.at.returns c).Start, figures-length whole, ap length t.beside.contracts, c.requires.0.places.contracts) in
     c.total_in.ensures
-    ∙ total_last whole (replicate longest_figures (pos 0)) f.new.1.1.1.1.0 (figures_each * (account_in c.args.account.now).contracts)
+    ∙ total_last whole (replicate longest_figures (pos 0)) f.new.figures (figures_each * (account_in c.args.account.now).contracts)
     ((f.ensures whole t).figures-after ∙ figures_front whole (replicate longest_figures (pos 0)) some) some
     (omega (arith, ap length t.beside.contracts, c.requires.0.places.contracts))

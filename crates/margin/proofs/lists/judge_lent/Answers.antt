@@ -13,41 +13,32 @@ use Rattle.margin.specs.declared.lists.Judged.TheVariants.{Refused}
 use Rattle.margin.proofs.AskedLaws.{asked_is}
 use Rattle.margin.proofs.ListLaws.{list_not-asked, list_asked}
 use Rattle.margin.proofs.lists.judge_lent.Goals as goal
-use Rattle.margin.proofs.lists.judge_lent.Goals.{After-is_asked, Start}
-
-abbrev start_of : After-is_asked → Start
-start_of c =
-    let start = c.before.before.before in
-    start
+use Rattle.margin.proofs.lists.judge_lent.Goals.{After-is_asked}
 
 -- whether the account answers the question
 asked : (c : After-is_asked) →
-    let s = start_of c in
-    answered (account_of s.args.morning.now s.args.noon.now) s.args.question ≡ c.is_asked.result
+    answered (account_of c.args.morning.now c.args.noon.now) c.args.question ≡ c.is_asked.result
 asked c =
-    let s = start_of c in
     sym
     (c.is_asked.ensures
-    ∙ asked_is (account_of s.args.morning.now s.args.noon.now) s.pre.lawful (account_in s.args.account.now).counts s.pre.places.counts
-    s.args.question)
+    ∙ asked_is (account_of c.args.morning.now c.args.noon.now) c.requires.lawful (account_in c.args.account.now).counts c.requires.places.counts
+    c.args.question)
 
 pub returns-then-not-is_asked : goal.returns-then-not-is_asked
 returns-then-not-is_asked c =
-    let s = start_of (goal.at.returns-then-not-is_asked c).After-is_asked in
-    let a = s.args in
-    ap (λ (n : ℕ). Refused (NoSuchQuestion n)) (c.record_total.ensures ∙ s.pre.places.all)
+    let a = c.args in
+    ap (λ (n : ℕ). Refused (NoSuchQuestion n)) (c.record_total.ensures ∙ c.requires.places.all)
     ∙ list_not-asked (account_of a.morning.now a.noon.now) a.question a.sent a.numbers.now a.uses.now
-    (asked (goal.at.returns-then-not-is_asked c).After-is_asked ∙ not-true c.is_asked.result c.if-not-is_asked.true)
+    (asked (goal.at.returns-then-not-is_asked c).After-is_asked ∙ c.if-not-is_asked.true)
 
 pub asking_over-asking-requires : goal.asking_over-asking-requires
 asking_over-asking-requires c =
-    ((start_of (goal.at.asking_over-asking-requires c).After-is_asked).requires, asked (goal.at.asking_over-asking-requires c).After-is_asked ∙ not-false c.is_asked.result c.if-not-is_asked.false)
+    (c.requires, asked (goal.at.asking_over-asking-requires c).After-is_asked ∙ c.if-not-is_asked.false)
 
 pub returns : goal.returns
 returns c =
-    let s = start_of (goal.at.returns c).After-is_asked in
-    let a = s.args in
+    let a = c.args in
     c.said_of.ensures ∙ ap said_of c.judge.ensures
     ∙ list_asked (account_of a.morning.now a.noon.now) a.question a.sent a.numbers.now a.uses.now
-    (asked (goal.at.returns c).After-is_asked ∙ not-false c.is_asked.result c.if-not-is_asked.false)
+    (asked (goal.at.returns c).After-is_asked ∙ c.if-not-is_asked.false)
     c.asking_over-asking.result c.asking_over-asking.ensures

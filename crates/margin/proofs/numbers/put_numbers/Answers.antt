@@ -14,8 +14,8 @@ returns c =
     let second = c.args.second.now in
     let prompts = c.requires.0 in
     let spreads = c.requires.1.0 in
-    book-listed c.args.prompts c.args.spreads c.args.out.now c.put_prompts.new.0 c.put_spreads.new.0
-    c.put.new.0 (threes_on c.args.prompts nets used unused 0) (twos_on c.args.spreads first second 0) (pos c.args.touches)
+    book-listed c.args.prompts c.args.spreads c.args.out.now c.put_prompts.new.out c.put_spreads.new.out
+    c.put.new.out (threes_on c.args.prompts nets used unused 0) (twos_on c.args.spreads first second 0) (pos c.args.touches)
     (threes-length c.args.prompts nets used unused prompts.nets_there prompts.used_there prompts.unused_there)
     (twos_length c.args.spreads first second spreads.firsts_there spreads.seconds_there)
     c.put_prompts.ensures c.put_spreads.ensures c.put.ensures

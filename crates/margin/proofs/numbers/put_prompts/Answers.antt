@@ -25,7 +25,7 @@ loop-i-preserved c =
     let net = back (get_or nets l.i (pos 0)) (record { sfits = c.net-1.given }) in
     let taken = back (get_or used l.i (pos 0)) (record { sfits = c.taken-1.given }) in
     let left = back (get_or unused l.i (pos 0)) (record { sfits = c.left-1.given }) in (
-      next l.i (l.i * 3) ((l.i + 1) * 3) l.out c.put_three.new.0
+      next l.i (l.i * 3) ((l.i + 1) * 3) l.out c.put_three.new.out
           (get_or nets l.i (pos 0) ∷ get_or used l.i (pos 0) ∷ get_or unused l.i (pos 0) ∷ [])
           l.invariant.0 (omega arith)
           (threes_step c.args.prompts nets used unused c.requires.0.nets_there c.requires.0.used_there c.requires.0.unused_there l.i (omega arith))

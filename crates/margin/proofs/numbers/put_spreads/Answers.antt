@@ -22,7 +22,7 @@ loop-i-preserved c =
     let l = c.loop-i in
     let first = c.args.first.now in
     let second = c.args.second.now in (
-      next l.i (c.args.at + l.i * 2) (c.args.at + (l.i + 1) * 2) l.out c.put_two.new.0
+      next l.i (c.args.at + l.i * 2) (c.args.at + (l.i + 1) * 2) l.out c.put_two.new.out
           (pos (get_or first l.i 0) ∷ pos (get_or second l.i 0) ∷ [])
           l.invariant.0 (omega arith)
           (twos_step c.args.spreads first second c.requires.1.firsts_there c.requires.1.seconds_there l.i (omega arith))

@@ -21,7 +21,7 @@ loop-i-preserved c =
     let l = c.loop-i in
     let nets = c.args.nets.now in
     let net = back (get_or nets l.i (pos 0)) (record { sfits = c.net-1.given }) in (
-      next l.i (l.i * 3) ((l.i + 1) * 3) l.out c.put_three.new.0 (get_or nets l.i (pos 0) ∷ pos 0 ∷ get_or nets l.i (pos 0) ∷ [])
+      next l.i (l.i * 3) ((l.i + 1) * 3) l.out c.put_three.new.out (get_or nets l.i (pos 0) ∷ pos 0 ∷ get_or nets l.i (pos 0) ∷ [])
           l.invariant.0 (omega arith) (rest_step c.args.prompts nets c.requires.1.0 l.i (omega arith))
           (c.put_three.ensures ∙ (λ j. sets l.out (l.i * 3) (net j ∷ pos 0 ∷ net j ∷ []))) (omega arith),
       c.out-1.given ∙ l.invariant.1,

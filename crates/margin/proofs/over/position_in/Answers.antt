@@ -35,4 +35,4 @@ returns c =
     let own = c.own_part-own in
     position_here a st.lawful n h own.result.now ps.result.now rs.result.now
     (own.ensures j n st h w) (ps.ensures j n st h w) (rs.ensures j n st h w) c.args.rates c.requires.1.1 u.result u.ensures.0
-    p.result (p.ensures.0 (rates_of a) c.requires.1.1) p.ensures.1
+    p.result (p.ensures.is (rates_of a) c.requires.1.1) p.ensures.most

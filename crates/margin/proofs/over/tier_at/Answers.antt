@@ -18,7 +18,7 @@ use Rattle.margin.proofs.AcceptLaws.{none_within, contract_within}
 use Rattle.margin.proofs.StandLaws.{number_at, listed_at, own_number, of_contract_lem}
 use Rattle.margin.proofs.TierLaws.{rows_tier}
 use Rattle.margin.proofs.over.tier_at.Goals as goal
-use Rattle.margin.proofs.over.tier_at.Goals.{After-contract_number-c, After-rows_part-rows, Start}
+use Rattle.margin.proofs.over.tier_at.Goals.{After-contract_number-c, After-rows_part-rows}
 
 -- the contract's number
 small : (c : After-contract_number-c) → c.contract_number-c.result ≤ most_contract
@@ -33,9 +33,6 @@ small c =
 
 -- its rows
 module _ (c : After-rows_part-rows) where
-  abbrev s : Start
-  s = (goal.at.rows_net-net-requires c).Start
-
   abbrev whole : List Record
   whole = account_of c.args.morning.now c.args.noon.now
 
@@ -52,7 +49,7 @@ whereabouts_of-w-requires c = small c
 
 pub rows_net-net-requires : goal.rows_net-net-requires
 rows_net-net-requires c =
-    subst⁻¹ RowsFit (rows_are c) (contract_within (whole c) (s c).requires.0.lawful [] c.contract_number-c.result none_within).rows_within
+    subst⁻¹ RowsFit (rows_are c) (contract_within (whole c) c.requires.0.lawful [] c.contract_number-c.result none_within).rows_within
 
 pub overflow_cast-result : goal.overflow_cast-result
 overflow_cast-result c =
@@ -60,10 +57,9 @@ overflow_cast-result c =
 
 pub returns : goal.returns
 returns c =
-    let st = s (goal.at.returns c).After-rows_part-rows in
-    let m = st.args.morning.now in
-    let n = st.args.noon.now in
+    let m = c.args.morning.now in
+    let n = c.args.noon.now in
     let k = c.contract_number-c in
-    rows_tier (account_of m n) st.pre.0.lawful k.result (get_or (contracts_of (account_of m n)) st.args.i []) c.rows_net-net.result.0
-    (number_at m n (account_in st.args.account.now) st.pre.0 st.args.i st.pre.1 k.result k.ensures) (small (goal.at.returns c).After-contract_number-c)
+    rows_tier (account_of m n) c.requires.0.lawful k.result (get_or (contracts_of (account_of m n)) c.args.i []) c.rows_net-net.result.0
+    (number_at m n (account_in c.args.account.now) c.requires.0 c.args.i c.requires.1 k.result k.ensures) (small (goal.at.returns c).After-contract_number-c)
     (subst (λ (rows : List Record). Sized most_delta (rows_net rows) c.rows_net-net.result.0) (rows_are (goal.at.returns c).After-rows_part-rows) c.rows_net-net.ensures)

@@ -19,7 +19,7 @@ use Rattle.margin.specs.Books.{table_question}
 use Rattle.margin.proofs.AskedLaws.{asked_small}
 use Rattle.margin.proofs.BesideLaws.{entries_beside, fits_book, asks_beside}
 use Rattle.margin.proofs.positions.asking_from.Goals as goal
-use Rattle.margin.proofs.positions.asking_from.Goals.{After-part, Else-question-eq-TABLE, Start}
+use Rattle.margin.proofs.positions.asking_from.Goals.{After-part, Else-question-eq-TABLE}
 
 -- the contracts are those of every account that the positions tell of, and so are the entries
 over : (c : After-part) →
@@ -32,16 +32,10 @@ over c whole t =
       is = c.tiers_from-tiers.ensures whole t;
     }
 
-abbrev start_of : Else-question-eq-TABLE → Start
-start_of c =
-    let start = c.before.before.before in
-    start
-
 -- the question is a contract's number
-small : (c : Else-question-eq-TABLE) → (start_of c).args.question ≤ most_contract
+small : (c : Else-question-eq-TABLE) → c.args.question ≤ most_contract
 small c =
-    let s = start_of c in
-    asked_small (account_of s.args.morning.now s.args.noon.now) s.pre.0.lawful s.args.question s.pre.1.1 c.if-question-eq-TABLE.false
+    asked_small (account_of c.args.morning.now c.args.noon.now) c.requires.0.lawful c.args.question c.requires.1.1 c.if-question-eq-TABLE.false
 
 pub tiers_from-tiers-requires : goal.tiers_from-tiers-requires
 tiers_from-tiers-requires c =
@@ -69,14 +63,13 @@ bounds-positions-question c = omega (arith, small c)
 
 pub asking_with-requires : goal.asking_with-requires
 asking_with-requires c =
-    let s = start_of (goal.at.asking_with-requires c).Else-question-eq-TABLE in
-    let x = s.pre.1.0 in
-    let q = s.args.question in
+    let x = c.requires.1.0 in
+    let q = c.args.question in
     let h = small (goal.at.asking_with-requires c).Else-question-eq-TABLE in (
-      s.pre.0,
+      c.requires.0,
       (
         h,
-        fits_book (account_of s.args.morning.now s.args.noon.now) x.whole x.told.beside q (get_or s.args.t4.at q no_position)
+        fits_book (account_of c.args.morning.now c.args.noon.now) x.whole x.told.beside q (get_or c.args.positions.at q no_position)
             (x.told.positions.each q h),
       ),
     )

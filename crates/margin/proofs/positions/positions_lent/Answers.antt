@@ -12,13 +12,7 @@ use Rattle.account.specs.Check.{most_contracts}
 use Rattle.margin.proofs.PositionsLaws.{Placed, placed_none, placed_next, placed_all}
 use Rattle.margin.proofs.StandLaws.{few_contracts, number_at, listed_at, own_number}
 use Rattle.margin.proofs.positions.positions_lent.Goals as goal
-use Rattle.margin.proofs.positions.positions_lent.Goals.{After-contract_number-c, After-contract_total-count, Start}
-
-abbrev start_of : After-contract_number-c → Start
-start_of c =
-    let after-contract-total = c.before.before.before.before.before in
-    let start = after-contract-total.before.before.before in
-    start
+use Rattle.margin.proofs.positions.positions_lent.Goals.{After-contract_number-c, After-contract_total-count}
 
 -- an account has at most sixteen contracts
 few : (c : After-contract_total-count) → c.contract_total-count.result ≤ most_contracts
@@ -26,28 +20,25 @@ few c =
     omega (arith, c.contract_total-count.ensures, few_contracts c.args.morning.now c.args.noon.now (account_in c.args.account.now) c.requires)
 
 -- the turn's contract is listed, and has this number
-within : (c : After-contract_number-c) → c.loop-i.i < (account_in (start_of c).args.account.now).contracts
+within : (c : After-contract_number-c) → c.loop-i.i < (account_in c.args.account.now).contracts
 within c =
     omega (arith, c.loop-i-test.true, c.contract_total-count.ensures)
 
 number : (c : After-contract_number-c) →
-    let s = start_of c in
-    c.contract_number-c.result ≡ contract (get_or (contracts_of (account_of s.args.morning.now s.args.noon.now)) c.loop-i.i [])
+    c.contract_number-c.result ≡ contract (get_or (contracts_of (account_of c.args.morning.now c.args.noon.now)) c.loop-i.i [])
 number c =
-    let s = start_of c in
-    number_at s.args.morning.now s.args.noon.now (account_in s.args.account.now) s.pre c.loop-i.i (within c)
+    number_at c.args.morning.now c.args.noon.now (account_in c.args.account.now) c.requires c.loop-i.i (within c)
     c.contract_number-c.result c.contract_number-c.ensures
 
 small : (c : After-contract_number-c) → c.contract_number-c.result ≤ most_contract
 small c =
-    let s = start_of c in
-    let m = s.args.morning.now in
-    let n = s.args.noon.now in
+    let m = c.args.morning.now in
+    let n = c.args.noon.now in
     omega (
       arith,
       number c,
-      own_number (account_of m n) s.pre.lawful c.loop-i.i
-          (listed_at m n (account_in s.args.account.now) s.pre c.loop-i.i (within c)),
+      own_number (account_of m n) c.requires.lawful c.loop-i.i
+          (listed_at m n (account_in c.args.account.now) c.requires c.loop-i.i (within c)),
     )
 
 pub loop-i-init : goal.loop-i-init
@@ -56,7 +47,7 @@ loop-i-init c =
 
 pub position_in-requires : goal.position_in-requires
 position_in-requires c =
-    ((start_of c).requires, (small c, c.rates_over-rates.ensures))
+    (c.requires, (small c, c.rates_over-rates.ensures))
 
 pub offset_bounds-at-c : goal.offset_bounds-at-c
 offset_bounds-at-c c = let h = small (goal.at.offset_bounds-at-c c).After-contract_number-c in omega arith
@@ -74,10 +65,9 @@ loop-i-smaller c = omega (arith, c.loop-i-test.true)
 
 pub loop-i-preserved : goal.loop-i-preserved
 loop-i-preserved c =
-    let s = start_of (goal.at.loop-i-preserved c).After-contract_number-c in
     let l = c.loop-i in
     let k = c.contract_number-c in (
-      placed_next (account_of s.args.morning.now s.args.noon.now) l.i l.at k.result c.position_in.result l.invariant.0
+      placed_next (account_of c.args.morning.now c.args.noon.now) l.i l.at k.result c.position_in.result l.invariant.0
           (small (goal.at.loop-i-preserved c).After-contract_number-c) (number (goal.at.loop-i-preserved c).After-contract_number-c) c.position_in.ensures,
       omega (arith, c.loop-i-test.true),
     )

@@ -17,13 +17,7 @@ use Rattle.margin.proofs.BesideLaws.{tier_sizes, tier_is}
 use Rattle.margin.proofs.StandLaws.{few_contracts, number_at, listed_at, own_number}
 use Rattle.margin.proofs.TierLaws.{TieredTo, tiers_none, tiers_next, tiers_all}
 use Rattle.margin.proofs.positions.tiers_from.Goals as goal
-use Rattle.margin.proofs.positions.tiers_from.Goals.{After-contract_number-c, After-contract_total-count, Start}
-
-abbrev start_of : After-contract_number-c → Start
-start_of c =
-    let after-contract-total = c.before.before.before in
-    let start = after-contract-total.before.before.before in
-    start
+use Rattle.margin.proofs.positions.tiers_from.Goals.{After-contract_number-c, After-contract_total-count}
 
 -- an account has at most sixteen contracts
 few : (c : After-contract_total-count) → c.contract_total-count.result ≤ most_contracts
@@ -31,41 +25,35 @@ few c =
     omega (arith, c.contract_total-count.ensures, few_contracts c.args.morning.now c.args.noon.now (account_in c.args.account.now) c.requires.0)
 
 -- the turn's contract is listed, and has this number
-within : (c : After-contract_number-c) → c.loop-i.i < (account_in (start_of c).args.account.now).contracts
+within : (c : After-contract_number-c) → c.loop-i.i < (account_in c.args.account.now).contracts
 within c =
     omega (arith, c.loop-i-test.true, c.contract_total-count.ensures)
 
 number : (c : After-contract_number-c) →
-    let s = start_of c in
-    c.contract_number-c.result ≡ contract (get_or (contracts_of (account_of s.args.morning.now s.args.noon.now)) c.loop-i.i [])
+    c.contract_number-c.result ≡ contract (get_or (contracts_of (account_of c.args.morning.now c.args.noon.now)) c.loop-i.i [])
 number c =
-    let s = start_of c in
-    number_at s.args.morning.now s.args.noon.now (account_in s.args.account.now) s.pre.0 c.loop-i.i (within c)
+    number_at c.args.morning.now c.args.noon.now (account_in c.args.account.now) c.requires.0 c.loop-i.i (within c)
     c.contract_number-c.result c.contract_number-c.ensures
 
 small : (c : After-contract_number-c) → c.contract_number-c.result ≤ most_contract
 small c =
-    let s = start_of c in
-    let m = s.args.morning.now in
-    let n = s.args.noon.now in
+    let m = c.args.morning.now in
+    let n = c.args.noon.now in
     omega (
       arith,
       number c,
-      own_number (account_of m n) s.pre.0.lawful c.loop-i.i
-          (listed_at m n (account_in s.args.account.now) s.pre.0 c.loop-i.i (within c)),
+      own_number (account_of m n) c.requires.0.lawful c.loop-i.i
+          (listed_at m n (account_in c.args.account.now) c.requires.0 c.loop-i.i (within c)),
     )
 
 -- and is so in every account beside
 listed : (c : After-contract_number-c) →
-    let s = start_of c in
-    (whole : List Record) → Besides (account_of s.args.morning.now s.args.noon.now) whole → c.loop-i.i < length (contracts_of whole)
+    (whole : List Record) → Besides (account_of c.args.morning.now c.args.noon.now) whole → c.loop-i.i < length (contracts_of whole)
 listed c whole b =
-    let s = start_of c in
-    omega (arith, within c, ap length b.contracts, s.pre.0.places.contracts)
+    omega (arith, within c, ap length b.contracts, c.requires.0.places.contracts)
 
 number_in : (c : After-contract_number-c) →
-    let s = start_of c in
-    (whole : List Record) → Besides (account_of s.args.morning.now s.args.noon.now) whole
+    (whole : List Record) → Besides (account_of c.args.morning.now c.args.noon.now) whole
     → c.contract_number-c.result ≡ contract (get_or (contracts_of whole) c.loop-i.i [])
 number_in c whole b = number c ∙ ap (λ (rs : List Record). contract (get_or rs c.loop-i.i [])) (sym b.contracts)
 
@@ -80,12 +68,11 @@ bounds-positions-c c = let h = small c in omega arith
 
 pub tier_with-one-requires : goal.tier_with-one-requires
 tier_with-one-requires c =
-    let s = start_of (goal.at.tier_with-one-requires c).After-contract_number-c in
-    let x = s.pre.1 in
+    let x = c.requires.1 in
     let k = c.contract_number-c.result in
     let h = small (goal.at.tier_with-one-requires c).After-contract_number-c in (
       h,
-      tier_sizes (account_of s.args.morning.now s.args.noon.now) x.whole x.told.beside k (get_or s.args.t4.at k no_position)
+      tier_sizes (account_of c.args.morning.now c.args.noon.now) x.whole x.told.beside k (get_or c.args.positions.at k no_position)
           (x.told.positions.each k h),
     )
 
@@ -115,7 +102,6 @@ loop-i-smaller c =
 
 pub loop-i-preserved : goal.loop-i-preserved
 loop-i-preserved c =
-    let s = start_of (goal.at.loop-i-preserved c).After-contract_number-c in
     let l = c.loop-i in
     let k = c.contract_number-c.result in
     let r = c.tier_with-one in
@@ -124,7 +110,7 @@ loop-i-preserved c =
           tiers_next whole l.i l.tiers l.nets r.result.contract r.result.net (l.invariant.0 whole t)
           (omega (arith, c.loop-i-test.true)) (listed (goal.at.loop-i-preserved c).After-contract_number-c whole t.beside)
           (subst⁻¹ (λ (m : ℕ). TierIs (parts_in whole (get_or (contracts_of whole) l.i [])) m r.result.net.0) r.ensures.0
-          (tier_is (account_of s.args.morning.now s.args.noon.now) whole t.beside k (get_or s.args.t4.at k no_position)
+          (tier_is (account_of c.args.morning.now c.args.noon.now) whole t.beside k (get_or c.args.positions.at k no_position)
           (t.positions.each k (small (goal.at.loop-i-preserved c).After-contract_number-c)) l.i (listed (goal.at.loop-i-preserved c).After-contract_number-c whole t.beside) (number_in (goal.at.loop-i-preserved c).After-contract_number-c whole t.beside) r.result.net.0 (small (goal.at.loop-i-preserved c).After-contract_number-c)
           r.ensures.1)),
       omega (arith, c.loop-i-test.true),

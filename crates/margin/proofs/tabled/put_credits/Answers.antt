@@ -92,15 +92,15 @@ loop-i-preserved c =
     let hc : n ≤ length amounts =
     omega (arith, entries_length {A = Amount} most_contracts (λ j. record { 0 = get_or c.args.earned.now (get_or lines j no_line).contract 0 })) in
     let vs = map pos (eight_of (get_or lines l.i no_line) (amount_at amounts l.i)) in
-    let written : r.new.0 ≡ sets l.out (l.i * figures_each) vs =
-    r.ensures.0 ∙ ap₂ (λ (x : Line) (y : ℕ). sets l.out (l.i * figures_each) (map pos (eight_of x y))) e.0 e.1 in (
-      next l.i (l.i * figures_each) ((l.i + 1) * figures_each) l.out r.new.0 vs l.invariant.0 taken (eights_step n lines amounts hl hc l.i taken)
+    let written : r.new.out ≡ sets l.out (l.i * figures_each) vs =
+    r.ensures.written ∙ ap₂ (λ (x : Line) (y : ℕ). sets l.out (l.i * figures_each) (map pos (eight_of x y))) e.0 e.1 in (
+      next l.i (l.i * figures_each) ((l.i + 1) * figures_each) l.out r.new.out vs l.invariant.0 taken (eights_step n lines amounts hl hc l.i taken)
           written (omega arith),
       (
         sums.next l.i l.total r.result.0 l.invariant.1.0 taken
             (total_step n lines amounts hl hc l.i taken
-            ∙ ap (λ (x : ℕ). x + total_on n lines amounts (l.i + 1)) (sym (r.ensures.1.0 ∙ ap₂ margin_with e.0 e.1)))
-            r.ensures.1.1,
+            ∙ ap (λ (x : ℕ). x + total_on n lines amounts (l.i + 1)) (sym (r.ensures.margin.0 ∙ ap₂ margin_with e.0 e.1)))
+            r.ensures.margin.1,
         (
           c.out-1.given ∙ l.invariant.1.1.0,
           λ k h.

@@ -40,7 +40,7 @@ returns c =
       c.if-out-uses_count.false,
     )
     in
-    accepted_with _ (uses whole question) out c.put_uses.new.0 (length (uses whole question))
+    accepted_with _ (uses whole question) out c.put_uses.new.out (length (uses whole question))
     (asked_many whole (Uses question) (length out) h.asked_is enough) refl
     (c.put_uses.ensures ∙ ap (sets out 0) (uses_same whole question c.args.records c.args.asking h)
     ∙ sets_front (uses whole question) out enough)

@@ -3,6 +3,7 @@ use mathlib.Core.Bool.{true, false}
 use mathlib.Core.List.{[]}
 use Prim.Native.Nat.{◌-◌}
 use native.Mathlib.Omega.{arith}
+use borrow.Author.Rules.{rules}
 use lib.ListN.{length, length-map}
 use lib.Seq.{sets}
 use Rattle.spread.specs.Accepted.{open_of, steps_of, sound_prompts, sound_table, prompt_places, spread_places}
@@ -69,11 +70,11 @@ pub put_step-rest-requires : goal.put_step-rest-requires
 put_step-rest-requires c =
     let l = c.loop-i in (
       second_sound c.args.table (spread-places (goal.at.put_step-rest-requires c).Start) (sound-table (goal.at.put_step-rest-requires c).Start) c.args.prompts.count _ l.i l.at l.left
-          c.put_step-between.result l.left l.out c.put_step-between.new.0 l.out no_spread l.invariant.0
+          c.put_step-between.result l.left l.out c.put_step-between.new.out l.out no_spread l.invariant.0
           c.loop-i-test.true c.put_step-between.ensures.0 c.put_step-between.ensures.1,
       second_room
           c.args.table (spread-places (goal.at.put_step-rest-requires c).Start) (sound-table (goal.at.put_step-rest-requires c).Start) c.args.prompts.count _ l.i l.at l.left c.put_step-between.result
-          l.left l.out c.put_step-between.new.0 l.out no_spread l.invariant.0 c.loop-i-test.true
+          l.left l.out c.put_step-between.new.out l.out no_spread l.invariant.0 c.loop-i-test.true
           c.put_step-between.ensures.0 c.put_step-between.ensures.1,
     )
 
@@ -96,13 +97,13 @@ loop-i-preserved c =
     let l = c.loop-i in (
       put_next c.args.table (spread-places (goal.at.loop-i-preserved c).Start) (sound-table (goal.at.loop-i-preserved c).Start) c.args.prompts.count _ l.i l.at l.left
           c.put_step-between.result c.put_step-rest.result l.out
-          c.put_step-between.new.0 c.put_step-rest.new.0 no_spread l.invariant.0
+          c.put_step-between.new.out c.put_step-rest.new.out no_spread l.invariant.0
           c.loop-i-test.true c.put_step-between.ensures.0
           c.put_step-between.ensures.1 c.put_step-rest.ensures.0 c.put_step-rest.ensures.1,
       put-length
           c.args.table (spread-places (goal.at.loop-i-preserved c).Start) (sound-table (goal.at.loop-i-preserved c).Start) c.args.prompts.count _ l.i l.at l.left
           c.put_step-between.result c.put_step-rest.result l.out
-          c.put_step-between.new.0 c.put_step-rest.new.0 no_spread l.invariant.0
+          c.put_step-between.new.out c.put_step-rest.new.out no_spread l.invariant.0
           c.loop-i-test.true c.put_step-between.ensures.0
           c.put_step-between.ensures.1 c.put_step-rest.ensures.0 c.put_step-rest.ensures.1 ∙ l.invariant.1,
     )

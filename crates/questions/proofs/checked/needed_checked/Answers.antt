@@ -6,15 +6,10 @@ use Rattle.account.specs.Answers.{number_of}
 use Rattle.questions.proofs.CheckedLaws.{file_stands, none_needed, needed_accepted}
 use borrow.Author.Rules.{rules}
 use Rattle.questions.proofs.checked.needed_checked.Goals as goal
-use Rattle.questions.proofs.checked.needed_checked.Goals.{Else-number_of-ne0, Start}
-
-abbrev start_of : Else-number_of-ne0 → Start
-start_of c =
-    let start = c.before.before.before in
-    start
+use Rattle.questions.proofs.checked.needed_checked.Goals.{Else-number_of-ne0}
 
 -- nothing is refused
-clear : (c : Else-number_of-ne0) → number_of (start_of c).args.checked.answer ≡ 0
+clear : (c : Else-number_of-ne0) → number_of c.args.checked.answer ≡ 0
 clear c = sym c.number_of.ensures ∙ omega (arith, c.if-number_of-ne0.false)
 
 pub returns-then-number_of-ne0 : goal.returns-then-number_of-ne0
@@ -23,14 +18,12 @@ returns-then-number_of-ne0 c =
 
 pub needed_over-requires : goal.needed_over-requires
 needed_over-requires c =
-    let s = start_of (goal.at.needed_over-requires c).Else-number_of-ne0 in
     let n = c.nothing_of in
-    file_stands s.args.file.now s.args.checked s.pre (clear (goal.at.needed_over-requires c).Else-number_of-ne0) n.result.now n.ensures
+    file_stands c.args.file.now c.args.checked c.requires (clear (goal.at.needed_over-requires c).Else-number_of-ne0) n.result.now n.ensures
 
 pub returns : goal.returns
 returns c =
-    let s = start_of (goal.at.returns c).Else-number_of-ne0 in
     let n = c.nothing_of in
     let r = c.needed_over in
-    needed_accepted s.args.file.now s.args.checked s.pre (clear (goal.at.returns c).Else-number_of-ne0) n.result.now n.ensures
-    s.args.question r.result r.ensures
+    needed_accepted c.args.file.now c.args.checked c.requires (clear (goal.at.returns c).Else-number_of-ne0) n.result.now n.ensures
+    c.args.question r.result r.ensures

@@ -6,15 +6,10 @@ use Rattle.account.specs.Answers.{number_of}
 use Rattle.questions.proofs.NoonLaws.{pair_stands, answer_refused, answer_accepted}
 use borrow.Author.Rules.{rules}
 use Rattle.questions.proofs.noon.answer_pair.Goals as goal
-use Rattle.questions.proofs.noon.answer_pair.Goals.{Else-number_of-ne0, Start}
-
-abbrev start_of : Else-number_of-ne0 → Start
-start_of c =
-    let start = c.before.before.before.before.before in
-    start
+use Rattle.questions.proofs.noon.answer_pair.Goals.{Else-number_of-ne0}
 
 -- nothing is refused so far
-clear : (c : Else-number_of-ne0) → number_of (start_of c).args.checked.verdict.answer ≡ 0
+clear : (c : Else-number_of-ne0) → number_of c.args.checked.verdict.answer ≡ 0
 clear c = sym c.number_of.ensures ∙ omega (arith, c.if-number_of-ne0.false)
 
 pub returns-then-number_of-ne0 : goal.returns-then-number_of-ne0
@@ -25,15 +20,13 @@ returns-then-number_of-ne0 c =
 
 pub answer_over-requires : goal.answer_over-requires
 answer_over-requires c =
-    let s = start_of (goal.at.answer_over-requires c).Else-number_of-ne0 in
-    let a = s.args in
-    pair_stands a.morning.now a.noon.now a.checked s.pre (clear (goal.at.answer_over-requires c).Else-number_of-ne0)
+    let a = c.args in
+    pair_stands a.morning.now a.noon.now a.checked c.requires (clear (goal.at.answer_over-requires c).Else-number_of-ne0)
 
 pub returns : goal.returns
 returns c =
-    let s = start_of (goal.at.returns c).Else-number_of-ne0 in
-    let a = s.args in
+    let a = c.args in
     let r = c.answer_over in
     let v = c.of_joined in
-    answer_accepted a.morning.now a.noon.now a.checked s.pre (clear (goal.at.returns c).Else-number_of-ne0) a.question a.out.now
-    r.new.1.1.1.1.0 r.result v.result v.ensures r.ensures
+    answer_accepted a.morning.now a.noon.now a.checked c.requires (clear (goal.at.returns c).Else-number_of-ne0) a.question a.out.now
+    r.new.out r.result v.result v.ensures r.ensures

@@ -4,7 +4,6 @@ use mathlib.Core.Path.{◌≡◌, ap, ◌∙◌}
 use native.Mathlib.Omega.{arith}
 use Rattle.record.specs.Bytes.{byte_at}
 use Rattle.record.specs.Layout.{leg_tier}
-use borrow.Author.Rules.{rules}
 use Rattle.record.proofs.fields.leg_place_in.Goals as goal
 
 pub returns : goal.returns

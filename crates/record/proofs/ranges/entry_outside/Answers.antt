@@ -1,5 +1,4 @@
 -- `record::ranges::entry_outside` meets its contract. Assumes nothing.
-use borrow.Author.Rules.{rules}
 use Prim.Native.Nat.{ℕ}
 use lib.Dec.{eqb}
 use mathlib.Core.Path.{ap, ◌∙◌}

@@ -1,12 +1,11 @@
 use Prim.Native.Nat.{ℕ, ◌+◌, ◌-◌, ◌*◌}
 use mathlib.Core.Bool.{Bool, ◌||◌}
-use mathlib.Core.Path.{◌≡◌, refl, sym, ap, ◌∙◌}
+use mathlib.Core.Path.{◌≡◌, sym, ap, ◌∙◌}
 use native.Mathlib.Omega.{arith}
-use borrow.Author.Rules.{rules}
 use Rattle.exact.specs.Lists.{any}
 use Rattle.record.specs.Bytes.{Record, u32_at, count_from}
-use Rattle.record.specs.Layout.{hundred_thousands, loss_field, scenario_count}
-use Rattle.record.specs.Ranges.{beyond, outside}
+use Rattle.record.specs.Layout.{hundred_thousands, scenario_count}
+use Rattle.record.specs.Ranges.{beyond}
 use Rattle.record.proofs.Tests.{any_next, any_past}
 use Rattle.record.proofs.ranges.losses_beyond.Invariants.{wrong}
 use Rattle.record.proofs.ranges.losses_beyond.Goals as goal

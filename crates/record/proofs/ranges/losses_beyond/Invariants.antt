@@ -1,14 +1,11 @@
 -- `record::ranges::losses_beyond`: a loss passed is outside its range, or one to come is. Assumes nothing.
-use Prim.Native.Nat.{ℕ, ◌+◌, ◌-◌, ◌*◌}
+use Prim.Native.Nat.{ℕ, ◌+◌, ◌-◌}
 use mathlib.Core.Bool.{Bool, ◌||◌}
-use mathlib.Core.Path.{◌≡◌, refl, sym, ap, ◌∙◌}
-use native.Mathlib.Omega.{arith}
-use borrow.Author.Rules.{rules}
+use mathlib.Core.Path.{◌≡◌}
 use Rattle.exact.specs.Lists.{any}
-use Rattle.record.specs.Bytes.{Record, u32_at, count_from}
-use Rattle.record.specs.Layout.{hundred_thousands, loss_field, scenario_count}
-use Rattle.record.specs.Ranges.{beyond, outside}
-use Rattle.record.proofs.Tests.{any_next, any_past}
+use Rattle.record.specs.Bytes.{Record, count_from}
+use Rattle.record.specs.Layout.{loss_field, scenario_count}
+use Rattle.record.specs.Ranges.{outside}
 use Rattle.record.proofs.ranges.losses_beyond.Given as goal
 
 abbrev pub wrong : Record → ℕ → Bool

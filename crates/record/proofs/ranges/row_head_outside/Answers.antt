@@ -1,5 +1,4 @@
 -- `record::ranges::row_head_outside` meets its contract. Assumes nothing.
-use borrow.Author.Rules.{rules}
 use mathlib.Core.Bool.{not, ◌||◌}
 use mathlib.Core.Path.{ap, ◌∙◌}
 use lib.Dec.{eqb}

@@ -1,5 +1,4 @@
 -- `record::ranges::signed_beyond` meets its contract. Assumes nothing.
-use borrow.Author.Rules.{rules}
 use mathlib.Core.Path.{ap}
 use mathlib.Core.Bool.{not}
 use Rattle.record.proofs.TwosComplement.{tested}

@@ -1,5 +1,4 @@
 -- `record::refusals::field_outside` meets its contract. Assumes nothing.
-use borrow.Author.Rules.{rules}
 use mathlib.Core.Path.{◌∙◌}
 use Rattle.record.proofs.Padding.{same_outside}
 use Rattle.record.proofs.refusals.field_outside.Goals as goal

@@ -1,5 +1,4 @@
 -- `record::refusals::is_of` meets its contract. Assumes nothing.
-use borrow.Author.Rules.{rules}
 use Rattle.record.proofs.refusals.is_of.Goals as goal
 
 pub returns : goal.returns

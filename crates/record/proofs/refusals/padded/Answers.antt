@@ -1,7 +1,5 @@
-use Prim.Native.Nat.{◌-◌}
-use lib.ListN.{length}
 use native.Mathlib.Omega.{arith}
-use Rattle.record.proofs.Padding.{Padding, padding_start, padding_next, padding_ends}
+use Rattle.record.proofs.Padding.{padding_start, padding_next, padding_ends}
 use Rattle.record.proofs.refusals.padded.Goals as goal
 
 pub loop-i-init : goal.loop-i-init

@@ -1,8 +1,7 @@
 -- `record::refusals::padded` meets its contract. Assumes nothing.
 use Prim.Native.Nat.{◌-◌}
 use lib.ListN.{length}
-use native.Mathlib.Omega.{arith}
-use Rattle.record.proofs.Padding.{Padding, padding_start, padding_next, padding_ends}
+use Rattle.record.proofs.Padding.{Padding}
 use Rattle.record.proofs.refusals.padded.Given as goal
 
 abbrev pub invariant-loop-i : goal.invariant-loop-i

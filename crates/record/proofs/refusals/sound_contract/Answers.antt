@@ -8,7 +8,6 @@ use Rattle.record.specs.Layout.{contract, contract_fields}
 use Rattle.record.specs.Ranges.{of_kind_and_contract}
 use Rattle.record.proofs.Dispatch.{of_contract_lem}
 use Rattle.record.proofs.Sound.{sound-short, sound-whole}
-use borrow.Author.Rules.{rules}
 use Rattle.record.proofs.refusals.sound_contract.Goals as goal
 
 pub returns-then-r-lt-RECORD_BYTES : goal.returns-then-r-lt-RECORD_BYTES

@@ -1,5 +1,4 @@
 -- `record::refusals::sound_prompt` meets its contract. Assumes nothing.
-use borrow.Author.Rules.{rules}
 use lib.ListN.{length}
 use borrow.Author.Tests.{lt-leb, le-leb}
 use Rattle.record.specs.Bytes.{record_bytes}

@@ -1,5 +1,4 @@
 -- `record::refusals::sound_row` meets its contract. Assumes nothing.
-use borrow.Author.Rules.{rules}
 use mathlib.Core.Bool.{Bool, not, ◌&&◌, ◌||◌}
 use mathlib.Core.Path.{refl, ap, ◌∙◌}
 use lib.Dec.{eqb}

@@ -1,12 +1,11 @@
 -- `record::refusals::sound_spread` meets its contract. Assumes nothing.
 use mathlib.Core.Path.{refl, sym, ◌∙◌}
 use lib.ListN.{length}
-use borrow.Author.Tests.{lt-leb, le-leb, not-true, not-false}
+use borrow.Author.Tests.{lt-leb, le-leb}
 use Rattle.record.specs.Bytes.{record_bytes}
 use Rattle.record.specs.Layout.{spread_fields}
 use Rattle.record.proofs.Dispatch.{of_spread}
 use Rattle.record.proofs.Sound.{sound-short, sound-whole}
-use borrow.Author.Rules.{rules}
 use Rattle.record.proofs.refusals.sound_spread.Goals as goal
 
 pub returns-then-r-lt-RECORD_BYTES : goal.returns-then-r-lt-RECORD_BYTES

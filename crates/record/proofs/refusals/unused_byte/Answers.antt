@@ -1,5 +1,4 @@
 -- `record::refusals::unused_byte` meets its contract. Assumes nothing.
-use borrow.Author.Rules.{rules}
 use mathlib.Core.Path.{◌∙◌}
 use Rattle.record.proofs.Padding.{same_unused}
 use Rattle.record.proofs.refusals.unused_byte.Goals as goal

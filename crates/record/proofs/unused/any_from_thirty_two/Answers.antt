@@ -2,7 +2,6 @@
 use mathlib.Core.Path.{refl}
 use Rattle.record.specs.Ranges.{not_zero}
 use Rattle.record.proofs.Tests.{any_parted}
-use borrow.Author.Rules.{rules}
 use Rattle.record.proofs.unused.any_from_thirty_two.Goals as goal
 
 pub returns : goal.returns

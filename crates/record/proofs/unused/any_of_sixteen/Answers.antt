@@ -4,7 +4,6 @@ use mathlib.Core.Path.{refl}
 use native.Mathlib.Omega.{arith}
 use Rattle.record.specs.Ranges.{not_zero}
 use Rattle.record.proofs.Tests.{any_parted}
-use borrow.Author.Rules.{rules}
 use Rattle.record.proofs.unused.any_of_sixteen.Goals as goal
 
 pub returns : goal.returns

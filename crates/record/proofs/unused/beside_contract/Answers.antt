@@ -1,6 +1,5 @@
 -- `record::unused::beside_contract` meets its contract. Assumes nothing.
 use Rattle.record.proofs.Tests.{both}
-use borrow.Author.Rules.{rules}
 use Rattle.record.proofs.unused.beside_contract.Goals as goal
 
 pub returns : goal.returns

@@ -2,7 +2,6 @@
 use mathlib.Core.Path.{refl}
 use Rattle.record.specs.Ranges.{not_zero}
 use Rattle.record.proofs.Tests.{both, any_parted}
-use borrow.Author.Rules.{rules}
 use Rattle.record.proofs.unused.beside_prompt.Goals as goal
 
 pub returns : goal.returns

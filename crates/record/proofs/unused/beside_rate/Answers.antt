@@ -1,6 +1,5 @@
 -- `record::unused::beside_rate` meets its contract. Assumes nothing.
 use Rattle.record.proofs.Tests.{both}
-use borrow.Author.Rules.{rules}
 use Rattle.record.proofs.unused.beside_rate.Goals as goal
 
 pub returns : goal.returns

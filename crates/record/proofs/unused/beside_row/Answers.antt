@@ -1,6 +1,5 @@
 -- `record::unused::beside_row`: four bytes, and four more. Assumes nothing.
 use mathlib.Core.Path.{sym, ◌∙◌}
-use borrow.Author.Rules.{rules}
 use Rattle.exact.proofs.Lists.{any_append}
 use Rattle.record.specs.Bytes.{count_from}
 use Rattle.record.specs.Ranges.{not_zero}

@@ -5,7 +5,6 @@ use borrow.Author.Tests.{eq-eqb, ne_eqb}
 use Rattle.record.specs.Layout.{two_legs}
 use Rattle.record.specs.Ranges.{not_zero}
 use Rattle.record.proofs.Tests.{both, any_parted}
-use borrow.Author.Rules.{rules}
 use Rattle.record.proofs.unused.beside_spread.Goals as goal
 
 pub returns-then-byte_in-eq2 : goal.returns-then-byte_in-eq2

@@ -1,5 +1,4 @@
 -- `record::unused::is_set` meets its contract. Assumes nothing.
-use borrow.Author.Rules.{rules}
 use Rattle.record.proofs.unused.is_set.Goals as goal
 
 pub returns : goal.returns

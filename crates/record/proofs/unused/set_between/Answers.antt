@@ -1,10 +1,4 @@
-use Prim.Native.Nat.{◌-◌}
-use mathlib.Core.Bool.{◌||◌}
-use mathlib.Core.Path.{◌≡◌, refl, sym, ◌∙◌}
-use native.Mathlib.Omega.{arith}
-use borrow.Author.Rules.{rules}
-use Rattle.exact.specs.Lists.{any}
-use Rattle.record.specs.Bytes.{count_from}
+use mathlib.Core.Path.{sym, ◌∙◌}
 use Rattle.record.specs.Ranges.{not_zero}
 use Rattle.record.proofs.Tests.{any_next, any_past}
 use Rattle.record.proofs.unused.set_between.Goals as goal

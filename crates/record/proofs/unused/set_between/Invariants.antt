@@ -1,13 +1,10 @@
 -- `record::unused::set_between`: a byte passed is set, or one to come is. Assumes nothing.
 use Prim.Native.Nat.{◌-◌}
 use mathlib.Core.Bool.{◌||◌}
-use mathlib.Core.Path.{◌≡◌, refl, sym, ◌∙◌}
-use native.Mathlib.Omega.{arith}
-use borrow.Author.Rules.{rules}
+use mathlib.Core.Path.{◌≡◌}
 use Rattle.exact.specs.Lists.{any}
 use Rattle.record.specs.Bytes.{count_from}
 use Rattle.record.specs.Ranges.{not_zero}
-use Rattle.record.proofs.Tests.{any_next, any_past}
 use Rattle.record.proofs.unused.set_between.Given as goal
 
 abbrev pub invariant-loop-i : goal.invariant-loop-i

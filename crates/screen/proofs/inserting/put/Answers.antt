@@ -6,21 +6,15 @@ use borrow.Author.Rules.{rules}
 use lib.ListN.{length, get_or, set, take, drop}
 use lib.Seq.{paste, paste-zero, paste-suc, length-paste, take-length}
 use Rattle.screen.proofs.inserting.put.Goals as goal
-use Rattle.screen.proofs.inserting.put.Goals.{After-shared_slice_known-1, Start}
-
-abbrev start_of : After-shared_slice_known-1 → Start
-start_of c =
-    let start = c.before.before.before in
-    start
+use Rattle.screen.proofs.inserting.put.Goals.{After-shared_slice_known-1}
 
 -- what is lent stays as long, and the byte's place is lent
-long : (c : After-shared_slice_known-1) → length c.loop-i.lent ≡ length (start_of c).args.lent.now
+long : (c : After-shared_slice_known-1) → length c.loop-i.lent ≡ length c.args.lent.now
 long c =
-    let s = start_of c in
     let l = c.loop-i in
-    let p = s.pre in
+    let p = c.requires in
     let w = l.invariant.0 in
-    ap length l.invariant.1 ∙ length-paste s.args.lent.now s.args.at s.args.row.now l.i (omega (arith, p, w)) w
+    ap length l.invariant.1 ∙ length-paste c.args.lent.now c.args.at c.args.row.now l.i (omega (arith, p, w)) w
 
 pub loop-i-init : goal.loop-i-init
 loop-i-init c = (omega arith, paste-zero c.args.lent.now c.args.at c.args.row.now)
@@ -33,7 +27,7 @@ overflow_add-lent c =
 
 pub bounds-lent-at : goal.bounds-lent-at
 bounds-lent-at c =
-    let p = (start_of c).requires in
+    let p = c.requires in
     let t = c.loop-i-test.true in
     let n = long c in
     omega (arith, p, t, n)
@@ -45,17 +39,16 @@ loop-i-smaller c =
 
 pub loop-i-preserved : goal.loop-i-preserved
 loop-i-preserved c =
-    let s = start_of c in
     let l = c.loop-i in
-    let p = s.pre in
+    let p = c.requires in
     let t = c.loop-i-test.true in
-    let row = s.args.row.now in
-    let at = s.args.at in
+    let row = c.args.row.now in
+    let at = c.args.at in
     let more : suc l.i ≡ l.i + 1 = omega arith in (
       omega (arith, t),
       ap (λ (xs : List ℕ). set xs (at + l.i) (get_or row l.i 0)) l.invariant.1
-          ∙ paste-suc s.args.lent.now at row l.i 0 (omega (arith, p, t)) t
-          ∙ ap (paste s.args.lent.now at row) more,
+          ∙ paste-suc c.args.lent.now at row l.i 0 (omega (arith, p, t)) t
+          ∙ ap (paste c.args.lent.now at row) more,
     )
 
 pub shape_of-lent : goal.shape_of-lent

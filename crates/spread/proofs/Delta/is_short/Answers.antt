@@ -1,6 +1,5 @@
 -- `is_short`: the sign of the number that the machine reads back.
 -- Assumes nothing.
-use borrow.Author.Rules.{rules}
 use Rattle.exact.proofs.Integers.{seen}
 use Rattle.exact.specs.Signed.{negative}
 use Rattle.spread.proofs.Delta.is_short.Goals as goal

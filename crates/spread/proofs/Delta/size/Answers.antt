@@ -1,7 +1,6 @@
 -- `size`: the size of the number that the machine reads back.
 -- Assumes nothing.
 use lib.IntN.{nat_abs}
-use borrow.Author.Rules.{rules}
 use Rattle.exact.proofs.Integers.{seen}
 use Rattle.spread.proofs.Delta.size.Goals as goal
 

@@ -4,7 +4,6 @@ use Prim.Native.Nat.{ℕ}
 use mathlib.Core.Bool.{◌&&◌}
 use mathlib.Core.Path.{ap}
 use lib.Dec.{leb, ltb}
-use borrow.Author.Rules.{rules}
 use Rattle.spread.specs.Accepted.{most_delta, tier_count}
 use Rattle.spread.proofs.accepted.sound_prompt.Goals as goal
 

@@ -1,13 +1,12 @@
-use Prim.Native.Nat.{◌≤◌, ◌-◌}
 use native.Mathlib.Omega.{arith}
 use mathlib.Core.Bool.{Bool, ◌&&◌}
 use mathlib.Core.Path.{◌≡◌, refl, sym, ◌∙◌, ap}
 use lib.IntN.{pos}
-use lib.ListN.{length, length-map}
+use lib.ListN.{length}
 use borrow.Author.Rules.{rules}
 use borrow.Author.Tests.{lt-leb, le-leb}
 use Rattle.spread.specs.Accepted.{every, open_of, sound_prompt, prompt_places}
-use Rattle.spread.proofs.Every.{Tested, tested_next, tested_end, open_length, open_at}
+use Rattle.spread.proofs.Every.{tested_next, tested_end, open_length, open_at}
 use Rattle.spread.proofs.accepted.sound_prompts.Goals as goal
 
 pub returns-then-n-gt-MOST_PROMPTS : goal.returns-then-n-gt-MOST_PROMPTS

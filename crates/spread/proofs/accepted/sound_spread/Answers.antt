@@ -1,7 +1,7 @@
 -- `sound_spread`: leg by leg, of two legs or of three.
 -- Assumes nothing.
 use mathlib.Core.Path.{◌≡◌, sym, ◌∙◌}
-use lib.ListN.{length, length-map}
+use lib.ListN.{length}
 use borrow.Author.Rules.{rules}
 use borrow.Author.Tests.{ne_eqb}
 use Rattle.spread.proofs.Soundness.{with_two, with_three}

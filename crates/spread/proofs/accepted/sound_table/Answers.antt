@@ -1,13 +1,12 @@
-use Prim.Native.Nat.{◌≤◌, ◌-◌}
 use native.Mathlib.Omega.{arith}
 use mathlib.Core.Bool.{Bool, ◌&&◌}
 use mathlib.Core.Path.{◌≡◌, refl, sym, ◌∙◌, ap}
-use lib.ListN.{length, length-map, take}
+use lib.ListN.{length, take}
 use lib.Seq.{length-take-le, get_or-take}
 use borrow.Author.Rules.{rules}
 use borrow.Author.Tests.{lt-leb, le-leb}
 use Rattle.spread.specs.Accepted.{every, sound_spread, spread_places}
-use Rattle.spread.proofs.Every.{Tested, tested_next, tested_end}
+use Rattle.spread.proofs.Every.{tested_next, tested_end}
 use Rattle.spread.proofs.accepted.sound_table.Goals as goal
 
 pub returns-then-n-gt-MOST_SPREADS : goal.returns-then-n-gt-MOST_SPREADS

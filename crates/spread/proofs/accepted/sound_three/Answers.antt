@@ -3,7 +3,6 @@
 use mathlib.Core.Bool.{Bool, true, false, not, ◌&&◌, ◌||◌}
 use mathlib.Core.List.{[], ◌∷◌}
 use mathlib.Core.Path.{◌≡◌, refl}
-use borrow.Author.Rules.{rules}
 use Rattle.spread.specs.Accepted.{sound_leg, legs_alike, sound_legs_of}
 use Rattle.spread.proofs.accepted.sound_three.Goals as goal
 

@@ -2,7 +2,6 @@
 -- Assumes nothing.
 use mathlib.Core.Bool.{Bool, true, false, not, ◌&&◌, ◌||◌}
 use mathlib.Core.Path.{◌≡◌, refl}
-use borrow.Author.Rules.{rules}
 use Rattle.spread.specs.Accepted.{sound_leg, legs_alike}
 use Rattle.spread.proofs.accepted.sound_two.Goals as goal
 

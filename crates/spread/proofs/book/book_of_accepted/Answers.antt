@@ -2,7 +2,6 @@
 -- Assumes nothing.
 use mathlib.Core.Bool.{true}
 use mathlib.Core.Path.{◌≡◌, refl, subst⁻¹}
-use borrow.Author.Rules.{rules}
 use Rattle.spread.specs.Accepted.{sound}
 use Rattle.spread.specs.declared.Prompts.{Prompts}
 use Rattle.spread.proofs.Booking.{booked_lent}
@@ -18,7 +17,7 @@ put_book-requires c =
 
 pub returns : goal.returns
 returns c =
-    let ends = c.put_book.new.1.1.1.1 in
-    booked_lent c.args.prompts c.args.table c.plain-nets.result ends.0 ends.1.0 ends.1.1.0 ends.1.1.1.0 _ _ _ _
+    let ends = c.put_book.new in
+    booked_lent c.args.prompts c.args.table c.plain-nets.result ends.first ends.second ends.used ends.unused _ _ _ _
     c.plain-nets.ensures c.spreads_from-formed.ensures
     c.spreads_from-reverse.ensures c.deltas_from-taken.ensures c.deltas_from-kept.ensures c.put_book.ensures

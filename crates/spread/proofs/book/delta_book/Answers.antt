@@ -1,8 +1,6 @@
 -- `delta_book`: what is refused has no numbers; what is accepted has its own.
 -- Assumes nothing.
 use mathlib.Core.Path.{sym, ◌∙◌}
-use borrow.Author.Rules.{rules}
-use borrow.Author.Tests.{not-true, not-false}
 use Rattle.spread.proofs.Booking.{booked_refused}
 use Rattle.spread.proofs.book.delta_book.Goals as goal
 

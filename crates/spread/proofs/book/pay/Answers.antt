@@ -6,7 +6,6 @@ use lib.IntN.{ℤ, pos, negsuc, neg_ℤ, ◌-ℤ◌}
 use lib.ListN.{length, length-map, get_or, set, replicate}
 use mir.Syntax.{w64}
 use mir.Val.{SFits, to_z, of_z}
-use borrow.Author.Rules.{rules}
 use Rattle.exact.proofs.Integers.{back, seen, seen₂, taken_sign}
 use Rattle.exact.specs.Signed.{towards_zero}
 use Rattle.spread.specs.Accepted.{open_of, prompt_places}
@@ -71,14 +70,15 @@ used_is c =
 
 pub loop-k-init : goal.loop-k-init
 loop-k-init c =
+    let at = (goal.at.loop-k-init c).Start in
     let cells = c.args.pools in
     let len : length cells ≡ pool_count = c.well_formed.1.1.1.0.1.0.1 in
-    let none = paying_none cells c.args.left.now (open_of (lent (goal.at.loop-k-init c).Start)) len in (
+    let none = paying_none cells c.args.left.now (open_of (lent at)) len in (
       omega arith,
-      few (lent (goal.at.loop-k-init c).Start) c.requires.0,
-      subst⁻¹ (λ (zs : List ℤ). Paying cells c.args.left.now (open_of (lent (goal.at.loop-k-init c).Start)) 0 cells (deltas_from zs) (deltas_from c.args.unused.now))
+      few (lent at) c.requires.0,
+      subst⁻¹ (λ (zs : List ℤ). Paying cells c.args.left.now (open_of (lent at)) 0 cells (deltas_from zs) (deltas_from c.args.unused.now))
           c.requires.1.1.1.0
-          (subst⁻¹ (λ (zs : List ℤ). Paying cells c.args.left.now (open_of (lent (goal.at.loop-k-init c).Start)) 0 cells (deltas_from (replicate prompt_places (pos 0))) (deltas_from zs))
+          (subst⁻¹ (λ (zs : List ℤ). Paying cells c.args.left.now (open_of (lent at)) 0 cells (deltas_from (replicate prompt_places (pos 0))) (deltas_from zs))
           c.requires.1.1.1.1 none),
     )
 
@@ -97,10 +97,11 @@ bounds-left-cell c =
 
 pub minus-requires : goal.minus-requires
 minus-requires c =
+    let at = goal.at.minus-requires c in
     let y = c.towards_zero-kept.result in
-    let z = read (goal.at.minus-requires c).Start c.loop-k.k in
+    let z = read at.Start c.loop-k.k in
     let f : SFits w64 z = record { sfits = c.struct_told-in-loop-k-1.given.0.1 } in
-    rw (back y (record { sfits = c.towards_zero-kept.type_inv }), kept-is (goal.at.minus-requires c).After-towards_zero-kept, back z f)
+    rw (back y (record { sfits = c.towards_zero-kept.type_inv }), kept-is at.After-towards_zero-kept, back z f)
     (taken-fits z c.beyond-due.result f)
 
 pub offset_bounds-had-cell-in-loop-k : goal.offset_bounds-had-cell-in-loop-k
@@ -123,6 +124,7 @@ bounds-had-cell-in-loop-k-2 c =
 
 pub loop-k-preserved : goal.loop-k-preserved
 loop-k-preserved c =
+    let at = goal.at.loop-k-preserved c in
     let l = c.loop-k in
     let cell = c.pool_of-cell.result in
     let x = c.minus.result in
@@ -131,9 +133,9 @@ loop-k-preserved c =
     let Kept-back = back y (record { sfits = c.towards_zero-kept.type_inv }) in (
       omega arith,
       l.invariant.1,
-      pay_next c.args.pools c.args.left.now (open_of (lent (goal.at.loop-k-preserved c).Start)) l.k l.had _ l.used l.unused _ cell
-          c.beyond-due.result _ _ (omega arith) (here (goal.at.loop-k-preserved c).After-pool_of-cell) c.beyond-due.ensures
-          (used-back ∙ used_is (goal.at.loop-k-preserved c).After-minus) (Kept-back ∙ kept-is (goal.at.loop-k-preserved c).After-towards_zero-kept)
+      pay_next c.args.pools c.args.left.now (open_of (lent at.Start)) l.k l.had _ l.used l.unused _ cell
+          c.beyond-due.result _ _ (omega arith) (here at.After-pool_of-cell) c.beyond-due.ensures
+          (used-back ∙ used_is at.After-minus) (Kept-back ∙ kept-is at.After-towards_zero-kept)
           (ap (set l.had cell) (c.beyond.ensures ∙ ap (λ (a : ℕ). get_or l.had cell 0 - a) c.size.ensures))
           l.invariant.2,
     )

@@ -1,7 +1,6 @@
 -- `pool_of`: short where the net delta is below zero.
 -- Assumes nothing.
 use mathlib.Core.Path.{◌∙◌, ap}
-use borrow.Author.Rules.{rules}
 use Rattle.spread.specs.code.Cells.{cell_of, short_if}
 use Rattle.spread.specs.Steps.{Market}
 use Rattle.spread.proofs.Gathering.{side_market}

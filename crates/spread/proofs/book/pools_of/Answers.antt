@@ -1,15 +1,14 @@
-use Prim.Native.Nat.{ℕ, ◌+◌, ◌-◌, ◌≤◌, ◌<◌}
+use Prim.Native.Nat.{ℕ, ◌+◌, ◌<◌}
 use native.Mathlib.Omega.{arith}
 use mathlib.Core.List.{List}
 use mathlib.Core.Path.{◌∙◌, ap, subst}
 use lib.IntN.{ℤ, pos}
-use lib.ListN.{length-map, get_or, set, take}
+use lib.ListN.{length-map, get_or, set}
 use lib.Seq.{take_all}
 use mir.Syntax.{w64}
 use mir.Val.{SFits, to_z, of_z}
-use borrow.Author.Rules.{rules}
 use Rattle.exact.proofs.Integers.{back}
-use Rattle.spread.specs.Accepted.{open_of, prompt_places}
+use Rattle.spread.specs.Accepted.{open_of}
 use Rattle.spread.specs.code.Cells.{Pooled, pool_count}
 use Rattle.spread.specs.code.Lent.{prompts_in}
 use Rattle.spread.specs.Steps.{Open}
@@ -42,7 +41,9 @@ within : (c : After-pool_of-cell) → c.pool_of-cell.result < pool_count
 within c = placed_within _ _ _ _ (here c)
 
 pub loop-i-init : goal.loop-i-init
-loop-i-init c = (omega arith, few (lent (goal.at.loop-i-init c).Start) c.requires.0, pooled_none (open_of (lent (goal.at.loop-i-init c).Start)))
+loop-i-init c =
+    let at = (goal.at.loop-i-init c).Start in
+    (omega arith, few (lent at) c.requires.0, pooled_none (open_of (lent at)))
 
 pub offset_bounds-cells-cell : goal.offset_bounds-cells-cell
 offset_bounds-cells-cell c = let h = within c in omega arith
@@ -52,9 +53,10 @@ bounds-cells-cell c = within c
 
 pub overflow_add-cells : goal.overflow_add-cells
 overflow_add-cells c =
+    let at = goal.at.overflow_add-cells c in
     let l = c.loop-i in
     let e = c.size.ensures in
-    let h = pools_fit (lent (goal.at.overflow_add-cells c).Start) l.i _ c.pool_of-cell.result (here (goal.at.overflow_add-cells c).After-pool_of-cell) l.cells l.invariant.2 c.requires.0 (omega arith) in
+    let h = pools_fit (lent at.Start) l.i _ c.pool_of-cell.result (here at.After-pool_of-cell) l.cells l.invariant.2 c.requires.0 (omega arith) in
     omega arith
 
 pub offset_bounds-cells-cell-in-loop-i : goal.offset_bounds-cells-cell-in-loop-i
@@ -65,11 +67,12 @@ bounds-cells-cell-in-loop-i c = within (goal.at.bounds-cells-cell-in-loop-i c).A
 
 pub loop-i-preserved : goal.loop-i-preserved
 loop-i-preserved c =
+    let at = goal.at.loop-i-preserved c in
     let l = c.loop-i in
     let cell = c.pool_of-cell.result in (
       omega arith,
       l.invariant.1,
-      pools_next (lent (goal.at.loop-i-preserved c).Start) l.i _ cell (here (goal.at.loop-i-preserved c).After-pool_of-cell) l.cells l.invariant.2 _
+      pools_next (lent at.Start) l.i _ cell (here at.After-pool_of-cell) l.cells l.invariant.2 _
           (ap (λ (x : ℕ). set l.cells cell (get_or l.cells cell 0 + x)) c.size.ensures),
     )
 

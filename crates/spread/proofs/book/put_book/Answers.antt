@@ -3,7 +3,8 @@
 use mathlib.Core.Path.{◌≡◌, sym, ◌∙◌, ap}
 use mathlib.Core.Bool.{true}
 use lib.ListN.{length, length-map}
-use Rattle.spread.specs.Accepted.{open_of, steps_of, sound_prompts, sound_table}
+use borrow.Author.Rules.{rules}
+use Rattle.spread.specs.Accepted.{steps_of, sound_prompts, sound_table}
 use Rattle.spread.specs.code.Cells.{pool_count}
 use Rattle.spread.specs.code.Lent.{prompts_in}
 use Rattle.spread.specs.declared.Prompts.{Prompts}
@@ -22,32 +23,32 @@ sound-lent : (s : Start) → sound_prompts (lent s) ≡ true
 sound-lent s = and_left (sound_prompts (lent s)) (sound_table s.args.table) s.requires.0
 
 -- the cells that the run leaves are as many
-as_many : (c : After-run) → length c.run.new.0 ≡ pool_count
+as_many : (c : After-run) → length c.run.new.cells ≡ pool_count
 as_many c =
-    ap length c.run.ensures.leaves ∙ (pooled_left (steps_of c.args.table) _ (open_of (lent c.before.before.before.before.before.before.before.before)) c.pools_of-pools.ensures).size
+    ap length c.run.ensures.leaves ∙ (pooled_left (steps_of c.args.table) _ _ c.pools_of-pools.ensures).size
 
 pub pools_of-pools-requires : goal.pools_of-pools-requires
 pools_of-pools-requires c = (sound-lent (goal.at.pools_of-pools-requires c).Start, ((search rules), (search rules)))
 
 pub run-requires : goal.run-requires
 run-requires c =
-    let lt = (search rules) in
-    let ln = length-map c.args.nets.now _ ∙ (search rules) in (
-      and_right (sound_prompts (lent (goal.at.run-requires c).Start)) (sound_table c.args.table) c.requires.0,
-      (pooled_small (lent (goal.at.run-requires c).Start) _ lt ln (sound-lent (goal.at.run-requires c).Start) c.pools_of-pools.ensures, c.requires.1.0),
+    let at = (goal.at.run-requires c).Start in (
+      and_right (sound_prompts (lent at)) (sound_table c.args.table) c.requires.0,
+      (pooled_small (lent at) _ (search rules) (length-map c.args.nets.now _ ∙ search rules) (sound-lent at) c.pools_of-pools.ensures, c.requires.1.0),
     )
 
 pub slice_bounds-pay-end-3 : goal.slice_bounds-pay-end-3
 slice_bounds-pay-end-3 c = sym (as_many (goal.at.slice_bounds-pay-end-3 c).After-run)
 
 pub pay-requires : goal.pay-requires
-pay-requires c = (
-  sound-lent (goal.at.pay-requires c).Start,
-  (
-    ((search rules), (search rules)),
-    (as_many (goal.at.pay-requires c).After-run, c.requires.1.1),
-  ),
-)
+pay-requires c =
+    let at = goal.at.pay-requires c in (
+      sound-lent at.Start,
+      (
+        ((search rules), (search rules)),
+        (as_many at.After-run, c.requires.1.1),
+      ),
+    )
 
 pub returns : goal.returns
 returns c =

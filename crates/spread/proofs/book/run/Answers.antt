@@ -1,11 +1,10 @@
-use Prim.Native.Nat.{ℕ, ◌-◌, ◌≤◌, ◌<◌}
+use Prim.Native.Nat.{ℕ}
 use native.Mathlib.Omega.{arith}
 use mathlib.Core.Bool.{true, false}
 use mathlib.Core.List.{List, []}
-use mathlib.Core.Logic.{⊎_elim}
 use mathlib.Core.Path.{◌≡◌, sym, ◌∙◌, ap, subst⁻¹}
 use lib.Dec.{ltb}
-use lib.ListN.{length, length-map, get_or, replicate}
+use lib.ListN.{length, get_or, replicate}
 use borrow.Author.Rules.{rules}
 use Rattle.spread.specs.Accepted.{table_spreads, sound_spread, spread_places}
 use Rattle.spread.specs.code.Cells.{Small}
@@ -19,7 +18,7 @@ use Rattle.spread.proofs.Gathering.{few_in_table, sound_in_table}
 use Rattle.spread.proofs.Running.{table_length, table_next, none_yet, Running, running_none, running_all}
 use Rattle.spread.proofs.Taking.{lowest_of, taken_of}
 use Rattle.spread.proofs.book.run.Goals as goal
-use Rattle.spread.proofs.book.run.Goals.{After-put_back-then-has_room-2, In-loop-i, Joined-has_room, Joined-has_room-2, Start}
+use Rattle.spread.proofs.book.run.Goals.{In-loop-i, Joined-has_room, Joined-has_room-2, Start, else-has_room, else-has_room-2, then-has_room, then-has_room-2}
 
 abbrev spread_at : Table → ℕ → Spread
 spread_at t i = get_or t.spread i (record { legs = 0; leg = []; tenths = false })
@@ -29,46 +28,43 @@ spreads s = search rules
 
 -- the spread of a turn is accepted
 here : (c : In-loop-i) → sound_spread (spread_at c.args.table c.loop-i.i) ≡ true
-here c = sound_in_table c.args.table (spreads c.before.before) c.requires.0 c.loop-i.i _ c.loop-i-test.true
+here c = sound_in_table c.args.table (search rules) c.requires.0 c.loop-i.i _ c.loop-i-test.true
 
 -- the steps of a turn, each taken or left out
 first_step : (c : Joined-has_room) →
     let l = c.loop-i in
     Written (step_of false (spread_at c.args.table l.i)) l.cells c.if-has_room.cells l.i l.first c.if-has_room.first
 first_step c =
-    let pools = c.pools_for-pools.ensures in
     let l = c.loop-i in
-    ⊎_elim
-    (λ w. record { number = _; taken = taken_of false _ (here c.before.before.before.before.before.before) _ _ pools _ _ _ w.1.ensures (w.4 ∙ w.3.ensures); written = w.5 })
-    (λ w. written_none _ _ _ _ _ _
-    (ap (ltb 0) (sym (lowest_of false _ (here c.before.before.before.before.before.before) _ _ pools)) ∙ sym c.has_room.ensures ∙ w.0.left)
-    w.1 w.2 (none_yet _ l.i l.first l.invariant.3.firsts))
-    c.if-has_room.branch
+    let pools = c.pools_for-pools.ensures in
+    let ok = sound_in_table c.args.table (search rules) c.requires.0 l.i _ c.loop-i-test.true in
+    elim c.if-has_room.branch [
+      | then-has_room w ↦ record { number = _; taken = taken_of false _ ok _ _ pools _ _ _ w.take-took.ensures (w.cells-is ∙ w.put_back.ensures); written = w.first-is }
+      | else-has_room w ↦ written_none _ _ _ _ _ _
+          (ap (ltb 0) (sym (lowest_of false _ ok _ _ pools)) ∙ sym c.has_room.ensures ∙ w.if-has_room.false)
+          w.cells-is w.first-is (none_yet _ l.i l.first l.invariant.3.firsts)
+    ]
 
 second-step : (c : Joined-has_room-2) →
     let l = c.loop-i in
     Written (step_of true (spread_at c.args.table l.i)) c.if-has_room.cells c.if-has_room-2.cells
     l.i l.second c.if-has_room-2.second
 second-step c =
-    let pools = c.pools_for-others.ensures in
     let l = c.loop-i in
-    ⊎_elim
-    (λ w. record { number = _; taken = taken_of true _ (here (goal.at.loop-i-preserved c).In-loop-i) _ _ pools _ _ _ w.1.ensures (w.4 ∙ w.3.ensures); written = w.5 })
-    (λ w. written_none _ _ _ _ _ _
-    (ap (ltb 0) (sym (lowest_of true _ (here (goal.at.loop-i-preserved c).In-loop-i) _ _ pools)) ∙ sym c.has_room-in-loop-i.ensures ∙ w.0.left)
-    w.1 w.2 (none_yet _ l.i l.second l.invariant.3.seconds))
-    c.if-has_room-2.branch
+    let pools = c.pools_for-others.ensures in
+    let ok = sound_in_table c.args.table (search rules) c.requires.0 l.i _ c.loop-i-test.true in
+    elim c.if-has_room-2.branch [
+      | then-has_room-2 w ↦ record { number = _; taken = taken_of true _ ok _ _ pools _ _ _ w.take-took-then-has_room-2.ensures (w.cells-is ∙ w.put_back-then-has_room-2.ensures); written = w.second-is }
+      | else-has_room-2 w ↦ written_none _ _ _ _ _ _
+          (ap (ltb 0) (sym (lowest_of true _ ok _ _ pools)) ∙ sym c.has_room-in-loop-i.ensures ∙ w.if-has_room-2.false)
+          w.cells-is w.second-is (none_yet _ l.i l.second l.invariant.3.seconds)
+    ]
 
 -- what the first step leaves is small
 between : (c : Joined-has_room) → Small c.if-has_room.cells
 between c =
     let l = c.loop-i in
     small_taken _ l.cells _ _ (first_step c).taken l.invariant.2
-
-below : (c : After-put_back-then-has_room-2) →
-    c.loop-i.i < spread_places
-below c =
-    omega (arith, c.loop-i-test.true, c.loop-i.invariant.1)
 
 pub loop-i-init : goal.loop-i-init
 loop-i-init c =
@@ -99,26 +95,22 @@ pools_for-others-requires c =
 
 pub take-took-requires-then-has_room-2 : goal.take-took-requires-then-has_room-2
 take-took-requires-then-has_room-2 c =
-    (here (goal.at.take-took-requires-then-has_room-2 c).In-loop-i, pools_small _ _ _ _ c.pools_for-others.ensures (between (goal.at.take-took-requires-then-has_room-2 c).Joined-has_room))
+    let at = goal.at.take-took-requires-then-has_room-2 c in
+    (here at.In-loop-i, pools_small _ _ _ _ c.pools_for-others.ensures (between at.Joined-has_room))
 
 pub put_back-requires-then-has_room-2 : goal.put_back-requires-then-has_room-2
 put_back-requires-then-has_room-2 c =
     ((search rules), here (goal.at.put_back-requires-then-has_room-2 c).In-loop-i)
 
-pub offset_bounds-second-i : goal.offset_bounds-second-i
-offset_bounds-second-i c = let h = below c in omega arith
-
-pub bounds-second-i : goal.bounds-second-i
-bounds-second-i c = below (goal.at.bounds-second-i c).After-put_back-then-has_room-2
-
 pub loop-i-preserved : goal.loop-i-preserved
 loop-i-preserved c =
+    let at = goal.at.loop-i-preserved c in
     let l = c.loop-i in (
       omega arith,
       l.invariant.1,
-      small_taken _ _ _ _ (second-step c).taken (between (goal.at.loop-i-preserved c).Joined-has_room),
-      table_next c.args.table c.args.cells.now l.i l.cells _ _ l.first l.second _ _ _ (spreads (goal.at.loop-i-preserved c).Start) l.invariant.1
-          c.loop-i-test.true (first_step (goal.at.loop-i-preserved c).Joined-has_room) (second-step c) l.invariant.3,
+      small_taken _ _ _ _ (second-step c).taken (between at.Joined-has_room),
+      table_next c.args.table c.args.cells.now l.i l.cells _ _ l.first l.second _ _ _ (spreads at.Start) l.invariant.1
+          c.loop-i-test.true (first_step at.Joined-has_room) (second-step c) l.invariant.3,
     )
 
 pub returns : goal.returns

@@ -1,4 +1,3 @@
-use Prim.Native.Nat.{◌-◌, ◌≤◌}
 use native.Mathlib.Omega.{arith}
 use mathlib.Core.Path.{ap}
 use lib.IntN.{ℤ, pos}
@@ -7,7 +6,7 @@ use mir.Syntax.{w64}
 use mir.Val.{SFits}
 use Rattle.exact.proofs.Integers.{back}
 use Rattle.spread.specs.Accepted.{prompt_places}
-use Rattle.spread.proofs.Filling.{Filled, filled_none, filled_next}
+use Rattle.spread.proofs.Filling.{filled_none, filled_next}
 use Rattle.spread.proofs.Gathering.{no_delta}
 use Rattle.spread.proofs.Lent.{filled-from}
 use Rattle.spread.proofs.plain.deltas_from.Goals as goal

@@ -1,17 +1,11 @@
 -- `deltas_from`: each number as a delta.
 -- Assumes nothing.
 use Prim.Native.Nat.{◌-◌, ◌≤◌}
-use native.Mathlib.Omega.{arith}
-use mathlib.Core.Path.{ap}
-use lib.IntN.{ℤ, pos}
+use lib.IntN.{pos}
 use lib.ListN.{get_or}
-use mir.Syntax.{w64}
-use mir.Val.{SFits}
-use Rattle.exact.proofs.Integers.{back}
 use Rattle.spread.specs.Accepted.{prompt_places}
-use Rattle.spread.proofs.Filling.{Filled, filled_none, filled_next}
+use Rattle.spread.proofs.Filling.{Filled}
 use Rattle.spread.proofs.Gathering.{no_delta}
-use Rattle.spread.proofs.Lent.{filled-from}
 use Rattle.spread.proofs.plain.deltas_from.Given as goal
 
 abbrev pub invariant-loop-k : goal.invariant-loop-k

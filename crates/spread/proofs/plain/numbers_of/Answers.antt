@@ -1,11 +1,10 @@
-use Prim.Native.Nat.{◌-◌, ◌≤◌}
 use native.Mathlib.Omega.{arith}
 use mathlib.Core.Path.{◌≡◌, refl, ◌∙◌, ap}
 use lib.ListN.{length, get_or}
 use Rattle.spread.specs.Accepted.{spread_places}
 use Rattle.spread.specs.code.Lent.{spreads_from}
 use Rattle.spread.specs.declared.Spreads.{Spreads}
-use Rattle.spread.proofs.Filling.{Filled, filled_none, filled_next}
+use Rattle.spread.proofs.Filling.{filled_none, filled_next}
 use Rattle.spread.proofs.Lent.{filled-from, spreads_back}
 use Rattle.spread.proofs.Running.{no_spreads}
 use Rattle.spread.proofs.plain.numbers_of.Goals as goal

@@ -1,14 +1,9 @@
 -- `numbers_of`: the number of each.
 -- Assumes nothing.
 use Prim.Native.Nat.{◌-◌, ◌≤◌}
-use native.Mathlib.Omega.{arith}
-use mathlib.Core.Path.{◌≡◌, refl, ◌∙◌, ap}
-use lib.ListN.{length, get_or}
+use lib.ListN.{get_or}
 use Rattle.spread.specs.Accepted.{spread_places}
-use Rattle.spread.specs.code.Lent.{spreads_from}
-use Rattle.spread.specs.declared.Spreads.{Spreads}
-use Rattle.spread.proofs.Filling.{Filled, filled_none, filled_next}
-use Rattle.spread.proofs.Lent.{filled-from, spreads_back}
+use Rattle.spread.proofs.Filling.{Filled}
 use Rattle.spread.proofs.Running.{no_spreads}
 use Rattle.spread.proofs.plain.numbers_of.Given as goal
 

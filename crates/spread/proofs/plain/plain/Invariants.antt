@@ -1,18 +1,11 @@
 -- `plain`: the number of each delta.
 -- Assumes nothing.
 use Prim.Native.Nat.{◌-◌, ◌≤◌}
-use native.Mathlib.Omega.{arith}
-use mathlib.Core.Path.{◌≡◌}
 use lib.IntN.{pos}
-use lib.ListN.{length, get_or}
-use mir.Syntax.{w64}
-use mir.Val.{SFits}
-use Rattle.exact.proofs.Integers.{back}
+use lib.ListN.{get_or}
 use Rattle.spread.specs.Accepted.{prompt_places}
-use Rattle.spread.specs.declared.Delta.{Delta}
-use Rattle.spread.proofs.Filling.{Filled, filled_none, filled_next}
+use Rattle.spread.proofs.Filling.{Filled}
 use Rattle.spread.proofs.Gathering.{no_delta}
-use Rattle.spread.proofs.Lent.{filled-from}
 use Rattle.spread.proofs.plain.plain.Given as goal
 
 abbrev pub invariant-loop-k : goal.invariant-loop-k

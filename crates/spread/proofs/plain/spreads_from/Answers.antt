@@ -1,9 +1,9 @@
-use Prim.Native.Nat.{ℕ, ◌-◌, ◌≤◌}
+use Prim.Native.Nat.{ℕ}
 use native.Mathlib.Omega.{arith}
 use mathlib.Core.Path.{refl}
 use lib.ListN.{get_or}
 use Rattle.spread.specs.Accepted.{spread_places}
-use Rattle.spread.proofs.Filling.{Filled, filled_none, filled_next}
+use Rattle.spread.proofs.Filling.{filled_none, filled_next}
 use Rattle.spread.proofs.Running.{no_spreads}
 use Rattle.spread.proofs.Lent.{filled-from}
 use Rattle.spread.proofs.plain.spreads_from.Goals as goal

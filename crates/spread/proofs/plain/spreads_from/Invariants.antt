@@ -1,13 +1,10 @@
 -- `spreads_from`: each number as one of spreads.
 -- Assumes nothing.
-use Prim.Native.Nat.{ℕ, ◌-◌, ◌≤◌}
-use native.Mathlib.Omega.{arith}
-use mathlib.Core.Path.{refl}
+use Prim.Native.Nat.{◌-◌, ◌≤◌}
 use lib.ListN.{get_or}
 use Rattle.spread.specs.Accepted.{spread_places}
-use Rattle.spread.proofs.Filling.{Filled, filled_none, filled_next}
+use Rattle.spread.proofs.Filling.{Filled}
 use Rattle.spread.proofs.Running.{no_spreads}
-use Rattle.spread.proofs.Lent.{filled-from}
 use Rattle.spread.proofs.plain.spreads_from.Given as goal
 
 abbrev pub invariant-loop-i : goal.invariant-loop-i

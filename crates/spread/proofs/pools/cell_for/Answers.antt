@@ -1,7 +1,6 @@
 -- `cell_for`: a leg is short in the step where its side takes short.
 -- Assumes nothing.
 use mathlib.Core.Path.{◌∙◌, ap}
-use borrow.Author.Rules.{rules}
 use Rattle.spread.specs.code.Cells.{cell_of}
 use Rattle.spread.specs.Steps.{Market}
 use Rattle.spread.proofs.Pooling.{side_market}

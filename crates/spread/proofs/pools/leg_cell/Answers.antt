@@ -2,7 +2,6 @@
 -- Assumes nothing.
 use native.Mathlib.Omega.{arith}
 use mathlib.Core.Bool.{true, false}
-use borrow.Author.Rules.{rules}
 use Rattle.spread.proofs.Pooling.{cell_in_step}
 use Rattle.spread.proofs.Soundness.{tier_of_lem}
 use Rattle.spread.proofs.pools.leg_cell.Goals as goal

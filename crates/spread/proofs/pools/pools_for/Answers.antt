@@ -1,7 +1,7 @@
 -- `pools_for`: leg after leg; of two legs the first again.
 -- Assumes nothing.
-use mathlib.Core.Path.{◌≡◌, sym, ◌∙◌}
-use lib.ListN.{length, length-map}
+use mathlib.Core.Path.{◌≡◌}
+use lib.ListN.{length}
 use borrow.Author.Rules.{rules}
 use Rattle.spread.proofs.Soundness.{first_leg_lem, second_leg_lem, third_leg_lem, has_three}
 use Rattle.spread.proofs.pools.pools_for.Goals as goal

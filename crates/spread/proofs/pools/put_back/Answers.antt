@@ -1,7 +1,7 @@
 -- `put_back`: leg after leg.
 -- Assumes nothing.
-use mathlib.Core.Path.{◌≡◌, sym, ◌∙◌}
-use lib.ListN.{length, length-map, length-set}
+use mathlib.Core.Path.{◌≡◌}
+use lib.ListN.{length, length-set}
 use borrow.Author.Rules.{rules}
 use Rattle.spread.proofs.Soundness.{first_leg_lem, second_leg_lem, third_leg_lem, has_two}
 use Rattle.spread.proofs.pools.put_back.Goals as goal

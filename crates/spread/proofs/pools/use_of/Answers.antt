@@ -1,7 +1,6 @@
 -- `use_of`: the product fits, and of tenths it is rounded.
 -- Assumes nothing.
 use native.Mathlib.Omega.{arith}
-use borrow.Author.Rules.{rules}
 use Rattle.spread.proofs.Bounds.{product_fits}
 use Rattle.spread.proofs.pools.use_of.Goals as goal
 

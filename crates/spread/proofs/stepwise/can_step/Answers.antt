@@ -1,6 +1,5 @@
 -- `can_step`: both tests.
 -- Assumes nothing.
-use borrow.Author.Rules.{rules}
 use Rattle.spread.proofs.stepwise.can_step.Goals as goal
 
 pub returns : goal.returns

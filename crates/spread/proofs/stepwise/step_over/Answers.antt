@@ -4,7 +4,6 @@ use mathlib.Core.Bool.{true}
 use mathlib.Core.Path.{◌≡◌, refl, sym, ◌∙◌, ap, subst, subst⁻¹}
 use lib.ListN.{length, length-map}
 use borrow.Author.Rules.{rules}
-use borrow.Author.Tests.{not-true, not-false}
 use Rattle.spread.specs.Accepted.{open_of, sound_prompts, sound_spread, prompt_places}
 use Rattle.spread.specs.Uses.{sound_for}
 use Rattle.spread.specs.code.Book.{Spent}
@@ -17,16 +16,10 @@ use Rattle.spread.proofs.Lent.{prompts_back}
 use Rattle.spread.proofs.Stepping.{stepped_refused, stepped_accepted}
 use Rattle.spread.proofs.Taking.{taken_of}
 use Rattle.spread.proofs.stepwise.step_over.Goals as goal
-use Rattle.spread.proofs.stepwise.step_over.Goals.{After-plain-nets, Else-not-can_step, Start}
+use Rattle.spread.proofs.stepwise.step_over.Goals.{After-plain-nets}
 
 -- prompts that are accepted, and their plain numbers
 module _ (c : After-plain-nets) where
-  abbrev stepping : Else-not-can_step
-  stepping = c.before.before.before
-
-  abbrev start : Start
-  start = c.before.before.before.before.before
-
   abbrev given : Prompts
   given = c.args.prompts
 
@@ -62,17 +55,20 @@ returns-then-not-can_step c =
     (sym c.can_step.ensures ∙ c.if-not-can_step.true) c.not_taken.ensures
 
 pub pools_of-pools-requires : goal.pools_of-pools-requires
-pools_of-pools-requires c = (sound-lent (goal.at.pools_of-pools-requires c).After-plain-nets, (tiers (goal.at.pools_of-pools-requires c).After-plain-nets, numbers (goal.at.pools_of-pools-requires c).After-plain-nets))
+pools_of-pools-requires c =
+    let at = (goal.at.pools_of-pools-requires c).After-plain-nets in
+    (sound-lent at, (tiers at, numbers at))
 
 pub pools_for-requires : goal.pools_for-requires
 pools_for-requires c = (c.pools_of-pools.ensures.size, sound-given (goal.at.pools_for-requires c).After-plain-nets)
 
 pub take-took-requires : goal.take-took-requires
-take-took-requires c = (
-  sound-given (goal.at.take-took-requires c).After-plain-nets,
-  pools_small _ _ _ _ c.pools_for.ensures
-      (pooled_small (lent (goal.at.take-took-requires c).After-plain-nets) _ (tiers (goal.at.take-took-requires c).After-plain-nets) (length-map c.plain-nets.result _ ∙ numbers (goal.at.take-took-requires c).After-plain-nets) (sound-lent (goal.at.take-took-requires c).After-plain-nets) c.pools_of-pools.ensures),
-)
+take-took-requires c =
+    let at = (goal.at.take-took-requires c).After-plain-nets in (
+      sound-given at,
+      pools_small _ _ _ _ c.pools_for.ensures
+          (pooled_small (lent at) _ (tiers at) (length-map c.plain-nets.result _ ∙ numbers at) (sound-lent at) c.pools_of-pools.ensures),
+    )
 
 pub put_back-requires : goal.put_back-requires
 put_back-requires c =
@@ -84,17 +80,19 @@ slice_bounds-pay-end c =
 
 pub pay-requires : goal.pay-requires
 pay-requires c =
-    (sound-lent (goal.at.pay-requires c).After-plain-nets, ((tiers (goal.at.pay-requires c).After-plain-nets, numbers (goal.at.pay-requires c).After-plain-nets), (search rules, (refl, refl))))
+    let at = (goal.at.pay-requires c).After-plain-nets in
+    (sound-lent at, ((tiers at, numbers at), (search rules, (refl, refl))))
 
 pub returns : goal.returns
 returns c =
-    let s = start (goal.at.returns c).After-plain-nets in
+    let at = (goal.at.returns c).After-plain-nets in
+    let s = c.args in
     let cells = c.pools_of-pools.result in
-    let left = c.put_back.new.0 in
+    let left = c.put_back.new.cells in
     let spent = c.pay.ensures in
-    stepped_accepted (given (goal.at.returns c).After-plain-nets) s.args.spread s.args.second (both (goal.at.returns c).After-plain-nets) (tiers (goal.at.returns c).After-plain-nets) (nets (goal.at.returns c).After-plain-nets) cells _ _ _ _
-    (subst (λ (q : Prompts). Pooled cells (open_of q)) (same (goal.at.returns c).After-plain-nets) c.pools_of-pools.ensures)
-    (taken_of s.args.second s.args.spread (sound-given (goal.at.returns c).After-plain-nets) cells _ c.pools_for.ensures _ _ _ c.take-took.ensures
+    stepped_accepted (given at) s.spread s.second (both at) (tiers at) (nets at) cells _ _ _ _
+    (subst (λ (q : Prompts). Pooled cells (open_of q)) (same at) c.pools_of-pools.ensures)
+    (taken_of s.second s.spread (sound-given at) cells _ c.pools_for.ensures _ _ _ c.take-took.ensures
     c.put_back.ensures)
-    (subst (λ (q : Prompts). Spent cells left (open_of q) c.deltas_from-taken.result c.deltas_from-kept.result) (same (goal.at.returns c).After-plain-nets)
+    (subst (λ (q : Prompts). Spent cells left (open_of q) c.deltas_from-taken.result c.deltas_from-kept.result) (same at)
     (record { useds = c.deltas_from-taken.ensures ∙ spent.useds; unuseds = c.deltas_from-kept.ensures ∙ spent.unuseds }))

@@ -1,13 +1,12 @@
-use Prim.Native.Nat.{ℕ, ◌+◌, ◌-◌, ◌≤◌, ◌<◌}
+use Prim.Native.Nat.{ℕ, ◌+◌, ◌<◌}
 use native.Mathlib.Omega.{arith}
 use mathlib.Core.Path.{sym, ◌∙◌, subst}
 use lib.IntN.{ℤ, pos, nat_abs}
 use lib.ListN.{length-map, get_or, set}
 use mir.Syntax.{w64}
 use mir.Val.{SFits, to_z, of_z}
-use borrow.Author.Rules.{rules}
 use Rattle.exact.proofs.Integers.{back}
-use Rattle.spread.specs.Accepted.{open_of, prompt_places}
+use Rattle.spread.specs.Accepted.{open_of}
 use Rattle.spread.specs.code.Cells.{pool_count}
 use Rattle.spread.specs.code.Lent.{prompts_in}
 use Rattle.spread.specs.declared.Prompts.{Prompts}
@@ -41,10 +40,11 @@ within c = placed_within _ _ _ _ (here c)
 
 pub loop-k-init : goal.loop-k-init
 loop-k-init c =
+    let at = (goal.at.loop-k-init c).Start in
     let r = c.requires.1.1 in (
       omega arith,
-      few (lent (goal.at.loop-k-init c).Start) c.requires.0,
-      laying_none (open_of (lent (goal.at.loop-k-init c).Start)) c.args.pool.now c.args.size.now c.args.at.now r.0 r.1.0 r.1.1,
+      few (lent at) c.requires.0,
+      laying_none (open_of (lent at)) c.args.pool.now c.args.size.now c.args.at.now r.0 r.1.0 r.1.1,
     )
 
 pub bounds-pool-k : goal.bounds-pool-k
@@ -73,16 +73,17 @@ bounds-at-cell-in-loop-k c =
 
 pub loop-k-preserved : goal.loop-k-preserved
 loop-k-preserved c =
+    let at = goal.at.loop-k-preserved c in
     let l = c.loop-k in
-    let q = open_of (lent (goal.at.loop-k-preserved c).Start) in
+    let q = open_of (lent at.Start) in
     let cell = c.pool_of-cell.result in (
       omega arith,
       l.invariant.1,
       subst (λ (a : ℕ). Laying q (l.k + 1) (set l.pool l.k cell) (set l.size l.k a) (set l.at cell c.earlier.result))
           (sym c.size.ensures)
-          (subst (λ (a : ℕ). Laying q (l.k + 1) (set l.pool l.k cell) (set l.size l.k (nat_abs (read (goal.at.loop-k-preserved c).Start l.k))) (set l.at cell a))
+          (subst (λ (a : ℕ). Laying q (l.k + 1) (set l.pool l.k cell) (set l.size l.k (nat_abs (read at.Start l.k))) (set l.at cell a))
           (sym c.earlier.ensures)
-          (laying_next q l.k _ cell (here (goal.at.loop-k-preserved c).After-pool_of-cell) l.pool l.size l.at (omega arith) l.invariant.2)),
+          (laying_next q l.k _ cell (here at.After-pool_of-cell) l.pool l.size l.at (omega arith) l.invariant.2)),
     )
 
 pub returns : goal.returns

@@ -2,7 +2,6 @@
 -- Assumes nothing.
 use Prim.Native.Nat.{◌≤◌}
 use native.Mathlib.Omega.{arith}
-use borrow.Author.Rules.{rules}
 use Rattle.spread.specs.Steps.{market_in}
 use Rattle.spread.specs.code.Cells.{pool_count}
 use Rattle.spread.proofs.Passing.{leg_taken}

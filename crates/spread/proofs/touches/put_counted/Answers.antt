@@ -23,10 +23,10 @@ sound-lent : (s : Start) → sound_prompts (lent s) ≡ true
 sound-lent s = and_left (sound_prompts (lent s)) (sound_table s.args.table) s.requires.0
 
 -- the cells that the run leaves are as many
-as_many : (c : After-run_counted-touches) → length c.run_counted-touches.new.0 ≡ pool_count
+as_many : (c : After-run_counted-touches) → length c.run_counted-touches.new.cells ≡ pool_count
 as_many c =
     ap length c.run_counted-touches.ensures.run.leaves
-    ∙ (pooled_left (steps_of c.args.table) _ (open_of (lent c.before.before.before.before.before.before.before.before.before.before.before.before.before.before.before.before.before.before.before.before)) c.pools_of-pools.ensures).size
+    ∙ (pooled_left (steps_of c.args.table) _ _ c.pools_of-pools.ensures).size
 
 pub lay-requires : goal.lay-requires
 lay-requires c =
@@ -38,11 +38,10 @@ pools_of-pools-requires c =
 
 pub run_counted-touches-requires : goal.run_counted-touches-requires
 run_counted-touches-requires c =
-    let lt = (search rules) in
-    let ln = length-map c.args.nets.now _ ∙ (search rules) in (
-      and_right (sound_prompts (lent (goal.at.run_counted-touches-requires c).Start)) (sound_table c.args.table) c.requires.0,
+    let at = (goal.at.run_counted-touches-requires c).Start in (
+      and_right (sound_prompts (lent at)) (sound_table c.args.table) c.requires.0,
       (
-        pooled_small (lent (goal.at.run_counted-touches-requires c).Start) _ lt ln (sound-lent (goal.at.run_counted-touches-requires c).Start) c.pools_of-pools.ensures,
+        pooled_small (lent at) _ (search rules) (length-map c.args.nets.now _ ∙ search rules) (sound-lent at) c.pools_of-pools.ensures,
         (c.requires.1.0, record { places = search rules; pools = search rules; sizes = search rules; begun = c.lay.ensures.1 }),
       ),
     )
@@ -51,14 +50,16 @@ pub slice_bounds-pay-end-3 : goal.slice_bounds-pay-end-3
 slice_bounds-pay-end-3 c = sym (as_many (goal.at.slice_bounds-pay-end-3 c).After-run_counted-touches)
 
 pub pay-requires : goal.pay-requires
-pay-requires c = (
-  sound-lent (goal.at.pay-requires c).Start,
-  (
-    ((search rules), (search rules)),
-    (as_many (goal.at.pay-requires c).After-run_counted-touches, c.requires.1.1),
-  ),
-)
+pay-requires c =
+    let at = goal.at.pay-requires c in (
+      sound-lent at.Start,
+      (
+        ((search rules), (search rules)),
+        (as_many at.After-run_counted-touches, c.requires.1.1),
+      ),
+    )
 
 pub returns : goal.returns
 returns c =
-    let pooled = c.pools_of-pools.ensures in record { book = booked_accepted (lent (goal.at.returns c).Start) c.args.table _ _ _ _ _ _ c.requires.0 pooled c.run_counted-touches.ensures.run c.pay.ensures; touched = c.run_counted-touches.ensures.counted (open_of (lent (goal.at.returns c).Start)) c.lay.ensures.0 (pooled_numbers (steps_of c.args.table) _ (open_of (lent (goal.at.returns c).Start)) pooled) }
+    let at = (goal.at.returns c).Start in
+    let pooled = c.pools_of-pools.ensures in record { book = booked_accepted (lent at) c.args.table _ _ _ _ _ _ c.requires.0 pooled c.run_counted-touches.ensures.run c.pay.ensures; touched = c.run_counted-touches.ensures.counted (open_of (lent at)) c.lay.ensures.0 (pooled_numbers (steps_of c.args.table) _ (open_of (lent at)) pooled) }

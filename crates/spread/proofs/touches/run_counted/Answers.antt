@@ -1,27 +1,25 @@
-use Prim.Native.Nat.{ℕ, ◌+◌, ◌-◌, ◌*◌, ◌≤◌, ◌<◌}
+use Prim.Native.Nat.{ℕ, ◌+◌, ◌*◌, ◌≤◌}
 use native.Mathlib.Omega.{arith}
 use mathlib.Core.Bool.{true, false}
 use mathlib.Core.List.{List, []}
-use mathlib.Core.Logic.{⊎_elim}
 use mathlib.Core.Path.{◌≡◌, sym, ◌∙◌, ap, subst⁻¹}
 use lib.Dec.{ltb}
-use lib.ListN.{length, length-map, get_or, replicate}
+use lib.ListN.{length, get_or, replicate}
 use borrow.Author.Rules.{rules}
-use Rattle.spread.specs.Accepted.{table_spreads, steps_of, sound_spread, prompt_places, spread_places}
+use Rattle.spread.specs.Accepted.{table_spreads, steps_of, sound_spread, spread_places}
 use Rattle.spread.specs.code.Cells.{Small, numbers_over, most_number}
 use Rattle.spread.specs.code.Lent.{spreads_from}
-use Rattle.spread.specs.code.Passing.{Ready, Laid}
-use Rattle.spread.specs.Steps.{Open, step_of, numbers}
+use Rattle.spread.specs.Steps.{step_of}
 use Rattle.spread.specs.declared.Spread.{Spread}
 use Rattle.spread.specs.declared.Table.{Table}
 use Rattle.spread.proofs.Bounds.{small_taken, pools_small, numbers_over_small}
-use Rattle.spread.proofs.Counting.{Counting, counting_none, counting_all, table_counting}
+use Rattle.spread.proofs.Counting.{counting_none, counting_all, table_counting}
 use Rattle.spread.proofs.Nothing.{Written, written_none}
 use Rattle.spread.proofs.Gathering.{few_in_table, sound_in_table}
 use Rattle.spread.proofs.Running.{table_length, table_next, none_yet, just_formed, Running, running_none, running_all}
 use Rattle.spread.proofs.Taking.{lowest_of, taken_of}
 use Rattle.spread.proofs.touches.run_counted.Goals as goal
-use Rattle.spread.proofs.touches.run_counted.Goals.{After-put_back-then-has_room-2, After-step_touches-two, In-loop-i, Joined-has_room, Joined-has_room-2, Start}
+use Rattle.spread.proofs.touches.run_counted.Goals.{In-loop-i, Joined-has_room, Joined-has_room-2, Start, else-has_room, else-has_room-2, then-has_room, then-has_room-2}
 
 abbrev spread_at : Table → ℕ → Spread
 spread_at t i = get_or t.spread i (record { legs = 0; leg = []; tenths = false })
@@ -31,35 +29,37 @@ spreads s = search rules
 
 -- the spread of a turn is accepted
 here : (c : In-loop-i) → sound_spread (spread_at c.args.table c.loop-i.i) ≡ true
-here c = sound_in_table c.args.table (spreads c.before.before) c.requires.0 c.loop-i.i _ c.loop-i-test.true
+here c = sound_in_table c.args.table (search rules) c.requires.0 c.loop-i.i _ c.loop-i-test.true
 
 -- the steps of a turn, each taken or left out
 first_step : (c : Joined-has_room) →
     let l = c.loop-i in
     Written (step_of false (spread_at c.args.table l.i)) l.cells c.if-has_room.cells l.i l.first c.if-has_room.first
 first_step c =
-    let pools = c.pools_for-pools.ensures in
     let l = c.loop-i in
-    ⊎_elim
-    (λ w. record { number = _; taken = taken_of false _ (here c.before.before.before.before.before.before) _ _ pools _ _ _ w.1.ensures (w.4 ∙ w.3.ensures); written = w.5 })
-    (λ w. written_none _ _ _ _ _ _
-    (ap (ltb 0) (sym (lowest_of false _ (here c.before.before.before.before.before.before) _ _ pools)) ∙ sym c.has_room.ensures ∙ w.0.left)
-    w.1 w.2 (none_yet _ l.i l.first l.invariant.3.firsts))
-    c.if-has_room.branch
+    let pools = c.pools_for-pools.ensures in
+    let ok = sound_in_table c.args.table (search rules) c.requires.0 l.i _ c.loop-i-test.true in
+    elim c.if-has_room.branch [
+      | then-has_room w ↦ record { number = _; taken = taken_of false _ ok _ _ pools _ _ _ w.take-took.ensures (w.cells-is ∙ w.put_back.ensures); written = w.first-is }
+      | else-has_room w ↦ written_none _ _ _ _ _ _
+          (ap (ltb 0) (sym (lowest_of false _ ok _ _ pools)) ∙ sym c.has_room.ensures ∙ w.if-has_room.false)
+          w.cells-is w.first-is (none_yet _ l.i l.first l.invariant.3.firsts)
+    ]
 
 second-step : (c : Joined-has_room-2) →
     let l = c.loop-i in
     Written (step_of true (spread_at c.args.table l.i)) c.if-has_room.cells c.if-has_room-2.cells
     l.i l.second c.if-has_room-2.second
 second-step c =
-    let pools = c.pools_for-others.ensures in
     let l = c.loop-i in
-    ⊎_elim
-    (λ w. record { number = _; taken = taken_of true _ (here c.before.before.before.before.before.before.before.before.before.before.before) _ _ pools _ _ _ w.1.ensures (w.4 ∙ w.3.ensures); written = w.5 })
-    (λ w. written_none _ _ _ _ _ _
-    (ap (ltb 0) (sym (lowest_of true _ (here c.before.before.before.before.before.before.before.before.before.before.before) _ _ pools)) ∙ sym c.has_room-in-loop-i.ensures ∙ w.0.left)
-    w.1 w.2 (none_yet _ l.i l.second l.invariant.3.seconds))
-    c.if-has_room-2.branch
+    let pools = c.pools_for-others.ensures in
+    let ok = sound_in_table c.args.table (search rules) c.requires.0 l.i _ c.loop-i-test.true in
+    elim c.if-has_room-2.branch [
+      | then-has_room-2 w ↦ record { number = _; taken = taken_of true _ ok _ _ pools _ _ _ w.take-took-then-has_room-2.ensures (w.cells-is ∙ w.put_back-then-has_room-2.ensures); written = w.second-is }
+      | else-has_room-2 w ↦ written_none _ _ _ _ _ _
+          (ap (ltb 0) (sym (lowest_of true _ ok _ _ pools)) ∙ sym c.has_room-in-loop-i.ensures ∙ w.if-has_room-2.false)
+          w.cells-is w.second-is (none_yet _ l.i l.second l.invariant.3.seconds)
+    ]
 
 -- what the first step leaves is small
 between : (c : Joined-has_room) → Small c.if-has_room.cells
@@ -67,31 +67,15 @@ between c =
     let l = c.loop-i in
     small_taken _ l.cells _ _ (first_step c).taken l.invariant.2
 
-below : (c : After-put_back-then-has_room-2) →
-    c.loop-i.i < spread_places
-below c =
-    omega (arith, c.loop-i-test.true, c.loop-i.invariant.1)
-
--- the turn that ends, when both steps are taken or left out
-module _ (c : Joined-has_room-2) where
-  abbrev after_first : Joined-has_room
-  after_first = c.before.before.before.before.before
-
-  abbrev in-turn : In-loop-i
-  in-turn = c.before.before.before.before.before.before.before.before.before.before.before
-
-  abbrev started : Start
-  started = c.before.before.before.before.before.before.before.before.before.before.before.before.before
-
-  turn_below : c.loop-i.i < spread_places
-  turn_below = omega (arith, c.loop-i-test.true, c.loop-i.invariant.1)
-
+-- the turn, when both steps are taken or left out
+module _ (c : Joined-has_room-2)
+    (first : Written (step_of false (spread_at c.args.table c.loop-i.i)) c.loop-i.cells c.if-has_room.cells c.loop-i.i c.loop-i.first c.if-has_room.first) where
   running : Running c.args.cells.now (table_spreads c.args.table) (c.loop-i.i + 1) c.if-has_room-2.cells
       (spreads_from c.if-has_room.first) (spreads_from c.if-has_room-2.second)
   running =
       let l = c.loop-i in
-      table_next c.args.table c.args.cells.now l.i l.cells _ _ l.first l.second _ _ _ (spreads started) l.inv.1
-      c.loop-i-test.true (first_step after_first) (second-step c) l.inv.3
+      table_next c.args.table c.args.cells.now l.i l.cells _ _ l.first l.second _ _ _ (search rules) l.invariant.1
+      c.loop-i-test.true first (second-step c) l.invariant.3
 
   first-formed : get_or c.if-has_room.first c.loop-i.i 0
       ≡ get_or (numbers_over (steps_of c.args.table) c.args.cells.now) (2 * c.loop-i.i) 0
@@ -101,16 +85,10 @@ module _ (c : Joined-has_room-2) where
       ≡ get_or (numbers_over (steps_of c.args.table) c.args.cells.now) (2 * c.loop-i.i + 1) 0
   second-formed = just_formed _ c.loop-i.i c.if-has_room-2.second running.seconds
 
-  number_small : (k n : ℕ) → n ≡ get_or (numbers_over (steps_of c.args.table) c.args.cells.now) k 0 → n ≤ most_number
-  number_small k n e =
-      let most = numbers_over_small (steps_of c.args.table) c.args.cells.now c.requires.1.0 k in
-      omega (arith, e)
-
--- the turn in which both steps have been counted
-abbrev joined : After-step_touches-two → Joined-has_room-2
-joined c =
-    let one = c.before.before.before.before.before in
-    one.before.before.before.before.before
+number_small : (s : Start) (k n : ℕ) → n ≡ get_or (numbers_over (steps_of s.args.table) s.args.cells.now) k 0 → n ≤ most_number
+number_small s k n e =
+    let most = numbers_over_small (steps_of s.args.table) s.args.cells.now s.requires.1.0 k in
+    omega arith
 
 pub loop-i-init : goal.loop-i-init
 loop-i-init c =
@@ -144,75 +122,41 @@ pools_for-others-requires c =
 
 pub take-took-requires-then-has_room-2 : goal.take-took-requires-then-has_room-2
 take-took-requires-then-has_room-2 c =
-    (here (goal.at.take-took-requires-then-has_room-2 c).In-loop-i, pools_small _ _ _ _ c.pools_for-others.ensures (between (goal.at.take-took-requires-then-has_room-2 c).Joined-has_room))
+    let at = goal.at.take-took-requires-then-has_room-2 c in
+    (here at.In-loop-i, pools_small _ _ _ _ c.pools_for-others.ensures (between at.Joined-has_room))
 
 pub put_back-requires-then-has_room-2 : goal.put_back-requires-then-has_room-2
 put_back-requires-then-has_room-2 c =
     ((search rules), here (goal.at.put_back-requires-then-has_room-2 c).In-loop-i)
 
-pub offset_bounds-second-i : goal.offset_bounds-second-i
-offset_bounds-second-i c = let h = below c in omega arith
-
-pub bounds-second-i : goal.bounds-second-i
-bounds-second-i c = below (goal.at.bounds-second-i c).After-put_back-then-has_room-2
-
-pub offset_bounds-first-i-in-loop-i : goal.offset_bounds-first-i-in-loop-i
-offset_bounds-first-i-in-loop-i c = let h = turn_below (goal.at.offset_bounds-first-i-in-loop-i c).Joined-has_room-2 in omega arith
-
-pub bounds-first-i-in-loop-i : goal.bounds-first-i-in-loop-i
-bounds-first-i-in-loop-i c = turn_below (goal.at.bounds-first-i-in-loop-i c).Joined-has_room-2
-
 pub step_touches-one-requires : goal.step_touches-one-requires
 step_touches-one-requires c =
-    let l = (in-turn (goal.at.step_touches-one-requires c).Joined-has_room-2).before.loop in
-    (l.inv.5, number_small (goal.at.step_touches-one-requires c).Joined-has_room-2 (2 * l.i) _ (first-formed (goal.at.step_touches-one-requires c).Joined-has_room-2))
-
-pub offset_bounds-second-i-in-loop-i : goal.offset_bounds-second-i-in-loop-i
-offset_bounds-second-i-in-loop-i c = let h = turn_below (goal.at.offset_bounds-second-i-in-loop-i c).Joined-has_room-2 in omega arith
-
-pub bounds-second-i-in-loop-i : goal.bounds-second-i-in-loop-i
-bounds-second-i-in-loop-i c = turn_below (goal.at.bounds-second-i-in-loop-i c).Joined-has_room-2
+    let at = goal.at.step_touches-one-requires c in
+    (c.loop-i.invariant.5, number_small at.Start (2 * c.loop-i.i) _ (first-formed at.Joined-has_room-2 (first_step at.Joined-has_room)))
 
 pub step_touches-two-requires : goal.step_touches-two-requires
 step_touches-two-requires c =
-    (c.step_touches-one.ensures.ready, number_small (goal.at.step_touches-two-requires c).Joined-has_room-2 (2 * (in-turn (goal.at.step_touches-two-requires c).Joined-has_room-2).before.loop.i + 1) _ (second-formed (goal.at.step_touches-two-requires c).Joined-has_room-2))
-
-pub overflow_add-touches : goal.overflow_add-touches
-overflow_add-touches c =
-    omega (arith, c.step_touches-two.ensures.few, c.step_touches-one.ensures.few)
-
-pub overflow_add-touches-in-loop-i : goal.overflow_add-touches-in-loop-i
-overflow_add-touches-in-loop-i c =
-    omega (
-      arith,
-      c.step_touches-two.ensures.few,
-      c.step_touches-one.ensures.few,
-      (in-turn (joined c)).before.loop.inv.4,
-      turn_below (joined c),
-    )
-
-pub overflow_add-i : goal.overflow_add-i
-overflow_add-i c = let h = turn_below (joined c) in omega arith
-
-pub loop-i-smaller : goal.loop-i-smaller
-loop-i-smaller c = omega (arith, (in-turn (joined c)).loop-test.taken)
+    let at = goal.at.step_touches-two-requires c in
+    (c.step_touches-one.ensures.ready, number_small at.Start (2 * c.loop-i.i + 1) _ (second-formed at.Joined-has_room-2 (first_step at.Joined-has_room)))
 
 pub loop-i-preserved : goal.loop-i-preserved
 loop-i-preserved c =
+    let one = c.step_touches-one in
     let two = c.step_touches-two in
-    let j = joined c in
-    let l = (in-turn j).before.loop in
-    let t = (started j).args.t2 in (
-      omega (arith, (in-turn j).loop-test.taken),
-      l.inv.1,
-      small_taken _ _ _ _ (second-step j).taken (between (after_first j)),
-      running j,
-      omega (arith, two.ensures.few, c.step_touches-one.ensures.few, l.inv.4),
+    let l = c.loop-i in
+    let at = goal.at.loop-i-preserved c in
+    let j = at.Joined-has_room-2 in
+    let first = first_step at.Joined-has_room in (
+      omega (arith, c.loop-i-test.true),
+      l.invariant.1,
+      small_taken _ _ _ _ (second-step j).taken (between at.Joined-has_room),
+      running j first,
+      omega (arith, two.ensures.few, one.ensures.few, l.invariant.4),
       two.ensures.ready,
       λ ps h e.
-          table_counting t ps l.i _ _ _ _ _ _ _ _ _ _ _ _ (spreads (started j)) l.inv.1 (in-turn j).loop-test.taken
-          (first-formed j ∙ ap (λ (ns : List ℕ). get_or ns (2 * l.i) 0) e) (second-formed j ∙ ap (λ (ns : List ℕ). get_or ns (2 * l.i + 1) 0) e)
-          c.step_touches-one.ensures two.ensures (l.inv.6 ps h e),
+          table_counting c.args.table ps l.i _ _ _ _ _ _ _ _ _ _ _ _ (search rules) l.invariant.1 c.loop-i-test.true
+          (first-formed j first ∙ ap (λ (ns : List ℕ). get_or ns (2 * l.i) 0) e) (second-formed j first ∙ ap (λ (ns : List ℕ). get_or ns (2 * l.i + 1) 0) e)
+          one.ensures two.ensures (l.invariant.6 ps h e),
     )
 
 pub returns : goal.returns

@@ -1,7 +1,7 @@
 -- `step_touches`: leg after leg.
 -- Assumes nothing.
-use mathlib.Core.Path.{◌≡◌, sym, ◌∙◌}
-use lib.ListN.{length, length-map}
+use mathlib.Core.Path.{◌≡◌}
+use lib.ListN.{length}
 use borrow.Author.Rules.{rules}
 use Rattle.spread.proofs.Legs.{three}
 use Rattle.spread.proofs.Passing.{step_taken, step_idle}

@@ -1,21 +1,11 @@
 -- `touches_in`: the cells and sizes are those of the prompts as the spreads passed leave them.
 -- Assumes nothing.
-use Prim.Native.Nat.{ℕ, ◌+◌, ◌-◌, ◌*◌, ◌≤◌, ◌<◌}
-use native.Mathlib.Omega.{arith}
+use Prim.Native.Nat.{◌-◌, ◌*◌, ◌≤◌}
 use mathlib.Core.List.{List}
-use mathlib.Core.Path.{◌≡◌, refl, sym, ◌∙◌}
-use lib.ListN.{length, length-map, get_or}
-use borrow.Author.Rules.{rules}
-use Rattle.spread.specs.Accepted.{open_of, table_spreads, steps_of, sound_prompts, sound_table, prompt_places, spread_places}
-use Rattle.spread.specs.code.Cells.{most_number}
-use Rattle.spread.specs.code.Lent.{prompts_in}
+use Rattle.spread.specs.Accepted.{table_spreads, prompt_places, spread_places}
 use Rattle.spread.specs.code.Passing.{Ready, Laid}
-use Rattle.spread.specs.Steps.{Open, numbers}
-use Rattle.spread.specs.declared.Prompts.{Prompts}
-use Rattle.spread.proofs.Both.{and_left, and_right}
-use Rattle.spread.proofs.Counting.{Formed, formed_by, numbers_small, Counting, counting_none, counting_all, table_counting}
-use Rattle.spread.proofs.Gathering.{few_in_table}
-use Rattle.spread.proofs.Running.{table_length}
+use Rattle.spread.specs.Steps.{Open}
+use Rattle.spread.proofs.Counting.{Formed, Counting}
 use Rattle.spread.proofs.touches.touches_in.Given as goal
 
 abbrev pub invariant-loop-i : goal.invariant-loop-i

@@ -2,7 +2,6 @@
 -- Assumes nothing.
 use mathlib.Core.Bool.{true}
 use mathlib.Core.Path.{◌≡◌, ◌∙◌, ap, subst⁻¹}
-use borrow.Author.Rules.{rules}
 use Rattle.spread.specs.Accepted.{open_of, steps_of, sound}
 use Rattle.spread.specs.code.Lent.{spreads_from, prompts_in}
 use Rattle.spread.specs.code.Passing.{FormedBy}
@@ -21,12 +20,13 @@ same c =
 
 pub touches_in-requires : goal.touches_in-requires
 touches_in-requires c =
+    let at = (goal.at.touches_in-requires c).After-plain-nets in
     let t = c.args.table in
     let formed = c.requires.1 in
     let first = spreads_from c.numbers_of-formed.result in
     let second = spreads_from c.numbers_of-reverse.result in (
-      subst⁻¹ (λ (p : Prompts). sound p t ≡ true) (same (goal.at.touches_in-requires c).After-plain-nets) c.requires.0,
-      subst⁻¹ (λ (p : Prompts). FormedBy p t first second) (same (goal.at.touches_in-requires c).After-plain-nets)
+      subst⁻¹ (λ (p : Prompts). sound p t ≡ true) (same at) c.requires.0,
+      subst⁻¹ (λ (p : Prompts). FormedBy p t first second) (same at)
           (record { firsts = c.numbers_of-formed.ensures ∙ formed.firsts; seconds = c.numbers_of-reverse.ensures ∙ formed.seconds }),
     )
 

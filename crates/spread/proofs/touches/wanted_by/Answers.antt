@@ -2,7 +2,6 @@
 -- Assumes nothing.
 use mathlib.Core.Bool.{Bool, cond}
 use mathlib.Core.Path.{sym, ◌∙◌, ap}
-use borrow.Author.Rules.{rules}
 use Rattle.spread.specs.Steps.{use_of}
 use Rattle.spread.proofs.touches.wanted_by.Goals as goal
 

@@ -124,5 +124,5 @@ returns c =
     (λ (n : ℕ). (held ps earlier : List Record) → RatesOf held table → DaysOf ps c.days_of.result
     → PositionOf held c.unit.result ps earlier (get_or c.args.kept.positions.at n no_position)
     → PositionOf held c.unit.result ps (earlier ++ records c.args.row.now) q)
-    e c.with_rows.ensures.more.0)
-    c.with_rows.ensures.more.1)
+    e c.with_rows.ensures.more)
+    c.with_rows.ensures.most)

@@ -1,6 +1,5 @@
 -- A row, or another record.
 -- Assumes nothing.
-use borrow.Author.Rules.{rules}
 use mathlib.Core.Path.{sym, ◌∙◌}
 use borrow.Author.Tests.{ne_eqb}
 use Rattle.record.specs.Layout.{kind}
@@ -11,6 +10,6 @@ row_answer-requires c =
     (c.requires.0 (sym c.kind.ensures.0 ∙ c.if-kind-eq3.true), c.requires.1)
 
 pub returns : goal.returns
-returns c =
+returns c rates of each =
     let r = c.args.r.now in
     rw (ne_eqb (kind r) 3 (λ e. c.if-kind-eq3.false (c.kind.ensures.0 ∙ e)))

@@ -1,6 +1,5 @@
 -- A contract, or none.
 -- Assumes nothing.
-use borrow.Author.Rules.{rules}
 use mathlib.Core.Path.{sym, ◌∙◌}
 use Rattle.writing.proofs.checking.asked_of.Goals as goal
 

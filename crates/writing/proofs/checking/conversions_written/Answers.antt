@@ -1,53 +1,39 @@
-use Prim.Native.Nat.{ℕ, ◌-◌, ◌+◌, ◌<◌}
+use Prim.Native.Nat.{ℕ, ◌+◌, ◌<◌}
 use native.Mathlib.Nat.{zero-add}
 use mathlib.Core.Path.{◌≡◌, sym, ap, subst, ◌∙◌}
 use mathlib.Core.List.{List}
 use native.Mathlib.Omega.{arith}
 use Rattle.record.specs.Layout.{Record, kind}
 use Rattle.account.specs.Answers.{number_of}
-use Rattle.account.specs.Checked.{rates_checked}
 use Rattle.account.specs.Conversions.{row_answer, Row}
 use Rattle.account.specs.Parts.{rates_of}
 use Rattle.account.specs.Records.{records, record_at, record_count}
 use Rattle.account.proofs.Lawful.{recorded}
-use Rattle.account.proofs.RateLaws.{rows_from, rows_start, rows_next, rows_stop, rows_end}
+use Rattle.account.proofs.RateLaws.{rows_start, rows_next, rows_stop, rows_end}
 use Rattle.writing.specs.Written.{written}
 use Rattle.writing.proofs.Held.{row_at}
 use Rattle.writing.proofs.Placed.{count_same}
 use Rattle.writing.proofs.checking.conversions_written.Goals as goal
-use Rattle.writing.proofs.checking.conversions_written.Goals.{After-answer_at-answer, At-loop-k, In-loop-k, Start}
-
--- the start and its entries, seen from the loop
-abbrev start_of : At-loop-k → Start
-start_of c =
-    let start = c.before.before.before.before in
-    start
-
-abbrev entries-of : At-loop-k → List ℕ
-entries-of c = (start_of c).args.entries.now
+use Rattle.writing.proofs.checking.conversions_written.Goals.{After-answer_at-answer, In-loop-k}
 
 -- the record is one of the file
-within : (c : In-loop-k) → c.loop-k.k < record_count (written (entries-of (goal.at.entry_at-requires c).At-loop-k))
-within c = omega (arith, c.loop-k-test.true, c.record_count-count.ensures, count_same (entries-of (goal.at.entry_at-requires c).At-loop-k))
+within : (c : In-loop-k) → c.loop-k.k < record_count (written c.args.entries.now)
+within c = omega (arith, c.loop-k-test.true, c.record_count-count.ensures, count_same c.args.entries.now)
 
 -- the head of the turn, its record's place, the file, its rates, and what the record answers
 module _ (c : After-answer_at-answer) where
-  abbrev head : In-loop-k
-  head = (goal.at.number_of-requires c).In-loop-k
-
   abbrev k : ℕ
   k = c.loop-k.k
 
   abbrev file : List ℕ
-  file = written (entries-of (goal.at.number_of-requires c).After-entry_at)
+  file = written c.args.entries.now
 
   abbrev rates : List Record
   rates = rates_of (records file)
 
   answered : c.answer_at-answer.result ≡ row_answer rates (0 + k) (record_at file k)
   answered =
-      let s = start_of (goal.at.number_of-requires c).After-entry_at in
-      c.answer_at-answer.ensures rates s.pre.1.rates (recorded file s.pre.1.accepted).ranges.rates
+      c.answer_at-answer.ensures rates c.requires.1.rates (recorded file c.requires.1.accepted).ranges.rates
       ∙ ap (row_answer rates k) c.entry_at.ensures
       ∙ ap (λ (n : ℕ). row_answer rates n (record_at file k)) (sym (zero-add k))
 
@@ -57,47 +43,34 @@ loop-k-init c =
 
 pub entry_at-requires : goal.entry_at-requires
 entry_at-requires c =
-    let s = start_of (goal.at.entry_at-requires c).At-loop-k in
-    (s.pre.0, omega (arith, within c, count_same s.args.entries.now))
+    (c.requires.0, omega (arith, within c, count_same c.args.entries.now))
 
 pub answer_at-answer-requires : goal.answer_at-answer-requires
 answer_at-answer-requires c =
-    let s = start_of (goal.at.answer_at-answer-requires c).At-loop-k in
-    let w = written s.args.entries.now in
-    let row = row_at w s.pre.1.accepted c.loop-k.k (within (goal.at.answer_at-answer-requires c).In-loop-k) in (
+    let w = written c.args.entries.now in
+    let row = row_at w c.requires.1.accepted c.loop-k.k (within (goal.at.answer_at-answer-requires c).In-loop-k) in (
       subst (λ (r : Record). kind r ≡ 3 → Row r) (sym c.entry_at.ensures) row,
-      record { rates = rates_of (records w); held = s.pre.1.rates; within = (recorded w s.pre.1.accepted).ranges.rates },
+      record { rates = rates_of (records w); held = c.requires.1.rates; within = (recorded w c.requires.1.accepted).ranges.rates },
     )
-
-pub number_of-requires : goal.number_of-requires
-number_of-requires c = tt
 
 pub returns-then-number_of-ne0 : goal.returns-then-number_of-ne0
 returns-then-number_of-ne0 c =
-    let turn = head (goal.at.returns-then-number_of-ne0 c).After-answer_at-answer in
-    let a = answered (goal.at.returns-then-number_of-ne0 c).After-answer_at-answer in
+    let p = (goal.at.returns-then-number_of-ne0 c).After-answer_at-answer in
+    let a = answered p in
     a
-    ∙ sym (turn.before.loop.inv ∙ rows_stop (rates (goal.at.returns-then-number_of-ne0 c).After-answer_at-answer) 0 (file (goal.at.returns-then-number_of-ne0 c).After-answer_at-answer) (k (goal.at.returns-then-number_of-ne0 c).After-answer_at-answer) (within turn)
+    ∙ sym (c.loop-k.invariant ∙ rows_stop (rates p) 0 (file p) (k p) (within (goal.at.returns-then-number_of-ne0 c).In-loop-k)
     (λ z. c.if-number_of-ne0.true (c.number_of.ensures ∙ ap number_of a ∙ z)))
-
-pub overflow_add-k : goal.overflow_add-k
-overflow_add-k c =
-    omega (arith, c.loop-k-test.true)
-
-pub loop-k-smaller : goal.loop-k-smaller
-loop-k-smaller c =
-    omega (arith, c.loop-k-test.true)
 
 pub loop-k-preserved : goal.loop-k-preserved
 loop-k-preserved c =
-    let turn = head (goal.at.loop-k-preserved c).After-answer_at-answer in
-    turn.before.loop.inv
-    ∙ rows_next (rates (goal.at.loop-k-preserved c).After-answer_at-answer) 0 (file (goal.at.loop-k-preserved c).After-answer_at-answer) (k (goal.at.loop-k-preserved c).After-answer_at-answer) (within turn)
-    (sym (c.number_of.ensures ∙ ap number_of (answered (goal.at.loop-k-preserved c).After-answer_at-answer)) ∙ omega (arith, c.if-number_of-ne0.false))
+    let p = (goal.at.loop-k-preserved c).After-answer_at-answer in
+    c.loop-k.invariant
+    ∙ rows_next (rates p) 0 (file p) (k p) (within (goal.at.loop-k-preserved c).In-loop-k)
+    (sym (c.number_of.ensures ∙ ap number_of (answered p)) ∙ omega (arith, c.if-number_of-ne0.false))
 
 pub returns : goal.returns
 returns c =
     let l = c.loop-k in
-    let e = entries-of (goal.at.returns c).At-loop-k in
+    let e = c.args.entries.now in
     let w = written e in
     sym (l.invariant ∙ rows_end (rates_of (records w)) 0 w l.k (omega (arith, c.loop-k-test.false, c.record_count-count.ensures, count_same e)))

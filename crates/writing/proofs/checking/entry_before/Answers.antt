@@ -1,6 +1,5 @@
 -- The entry before it in the order, or none.
 -- Assumes nothing.
-use borrow.Author.Rules.{rules}
 use mathlib.Core.Path.{sym, ap, ◌∙◌}
 use native.Mathlib.Omega.{arith}
 use Rattle.account.specs.code.Notes.{before_at}

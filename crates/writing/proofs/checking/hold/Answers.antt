@@ -1,6 +1,5 @@
 -- Those that are there, or others.
 -- Assumes nothing.
-use borrow.Author.Rules.{rules}
 use Prim.Native.Nat.{ℕ}
 use mathlib.Core.Path.{sym, subst, ◌∙◌}
 use native.Mathlib.Omega.{arith}
@@ -15,10 +14,6 @@ returns-then-c-held c =
     subst (λ (n : ℕ). HeldNotes (written c.args.entries.now) c.args.first.now c.args.counts.now c.args.prompts.now n) (sym c.if-c-held.true)
     c.requires.1.holds
 
-pub overflow_add-v : goal.overflow_add-v
-overflow_add-v c =
-    omega (arith, c.requires.1.holdable.number)
-
 pub fill-requires : goal.fill-requires
 fill-requires c = (
   c.requires.0,
@@ -28,11 +23,8 @@ fill-requires c = (
   ),
 )
 
-pub shape_of-prompts : goal.shape_of-prompts
-shape_of-prompts c = c.fill.auto.1.1.1.1.0
-
 pub returns : goal.returns
 returns c =
     held_now c.args.entries.now c.args.first.now c.args.counts.now c.args.prompts.now c.args.c
     c.noted.ensures c.noted-2.ensures c.requires.1.holdable.within
-    c.fill.ensures (c.fill.auto.1.1.1.1.0 ∙ c.requires.1.holds.long)
+    c.fill.ensures (c.fill.auto.out ∙ c.requires.1.holds.long)

@@ -1,6 +1,5 @@
 -- The tests.
 -- Assumes nothing.
-use borrow.Author.Rules.{rules}
 use Rattle.writing.proofs.checking.names_prompts.Goals as goal
 
 pub returns : goal.returns

@@ -1,10 +1,9 @@
-use borrow.Author.Rules.{rules}
-use Prim.Native.Nat.{◌-◌, ◌+◌}
+use Prim.Native.Nat.{◌+◌}
 use mathlib.Core.Path.{ap, ◌∙◌}
 use native.Mathlib.Omega.{arith}
 use lib.ListN.{length}
 use Rattle.writing.specs.Written.{written}
-use Rattle.writing.proofs.Placed.{Filling, filling_start, filling_next, filling_ends, part_long, record_long, count_same}
+use Rattle.writing.proofs.Placed.{filling_start, filling_next, filling_ends, part_long, record_long, count_same}
 use Rattle.writing.proofs.filling.fill.Goals as goal
 
 pub loop-i-init : goal.loop-i-init

@@ -1,7 +1,5 @@
-use borrow.Author.Rules.{rules}
-use Prim.Native.Nat.{◌-◌}
 use native.Mathlib.Omega.{arith}
-use Rattle.writing.proofs.Ranks.{Keying, keying_start, keying_next, keying_ends}
+use Rattle.writing.proofs.Ranks.{keying_start, keying_next, keying_ends}
 use Rattle.writing.proofs.order.keys_of.Goals as goal
 
 pub loop-k-init : goal.loop-k-init

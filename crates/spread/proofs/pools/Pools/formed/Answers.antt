@@ -1,8 +1,8 @@
 -- `formed`: the smallest of the rooms.
 -- Assumes nothing.
 use Prim.Native.Nat.{min}
-use mathlib.Core.Path.{◌≡◌, sym, ◌∙◌, ap₂}
-use lib.ListN.{length, length-map}
+use mathlib.Core.Path.{◌≡◌, ◌∙◌, ap₂}
+use lib.ListN.{length}
 use borrow.Author.Rules.{rules}
 use borrow.Author.Tests.{ltb-true}
 use Rattle.spread.specs.code.Pools.{leg_at}

@@ -3,7 +3,6 @@
 use Prim.Native.Nat.{min}
 use mathlib.Core.Path.{◌∙◌, ap}
 use lib.Dec.{ltb}
-use borrow.Author.Rules.{rules}
 use Rattle.spread.proofs.pools.Pools.has_room.Goals as goal
 
 pub returns : goal.returns

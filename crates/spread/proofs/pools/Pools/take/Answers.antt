@@ -2,7 +2,6 @@
 -- Assumes nothing.
 use Prim.Native.Nat.{ℕ, ◌≤◌}
 use mathlib.Core.Path.{subst⁻¹}
-use borrow.Author.Rules.{rules}
 use Rattle.spread.specs.code.Cells.{most_number}
 use Rattle.spread.proofs.Bounds.{formed_most}
 use Rattle.spread.proofs.pools.Pools.take.Goals as goal

@@ -8,10 +8,9 @@ use Rattle.felgotany.proofs.felgotany_joined_all.Goals as goal
 
 pub returns : goal.returns
 returns c =
-    let f = c.ask_all-asked.ensures in (
-      (subst (λ (v : Verdict). TellsOf v c.tell_of-first.result) f.figures_answer_lem c.tell_of-first.ensures, f.figures-after),
-      (
-        (subst (λ (v : Verdict). TellsOf v c.tell_of-second.result) f.books_answer_lem c.tell_of-second.ensures, f.books_after_lem),
-        (subst (λ (v : Verdict). TellsOf v c.tell_of-third.result) f.uses_answer_lem c.tell_of-third.ensures, f.uses-after),
-      ),
-    )
+    let f = c.ask_all-asked.ensures in
+    record {
+      tells_of = (subst (λ (v : Verdict). TellsOf v c.tell_of-first.result) f.figures_answer_lem c.tell_of-first.ensures, f.figures-after);
+      tells_of_2 = (subst (λ (v : Verdict). TellsOf v c.tell_of-second.result) f.books_answer_lem c.tell_of-second.ensures, f.books_after_lem);
+      tells_of_3 = (subst (λ (v : Verdict). TellsOf v c.tell_of-third.result) f.uses_answer_lem c.tell_of-third.ensures, f.uses-after);
+    }

@@ -9,4 +9,8 @@ use Rattle.felgotany.proofs.felgotany_run.Goals as goal
 pub returns : goal.returns
 returns c =
     let f = c.answer_run.ensures in
-    (subst (λ (a : Answer). Tells a c.tell.result) f.0 c.tell.ensures, (f.1.0, f.1.1))
+    record {
+      tells = subst (λ (a : Answer). Tells a c.tell.result) f.value c.tell.ensures;
+      figures_after = f.out_after;
+      outcomes_after = f.outcomes_after;
+    }

@@ -15,8 +15,8 @@ pub struct NumberedTotal {
 
 // The place before `best`, unless its value is below that of `best`.
 fn or_earlier(best: NumberedTotal, value: i64, number: usize) -> NumberedTotal
-    ensures value_value { result.value ≡ larger value best.value }
-    ensures number_value { result.number ≡ cond (lt_z value best.value) best.number number }
+    ensures value { result.value ≡ larger value best.value }
+    ensures number { result.number ≡ cond (lt_z value best.value) best.number number }
 {
     let value_of_best = best.value;
     if below(value, value_of_best) {

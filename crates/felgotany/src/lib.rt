@@ -265,11 +265,11 @@ pub extern "C" fn felgotany_joined_all<'a>(
     books: &mut [i64],
     uses: &mut [i64],
 ) -> PairOutcomes
-    ensures tells_of { TellsOf (joined_figures morning.now noon.now (length figures.old)) result.figures
+    ensures figures { TellsOf (joined_figures morning.now noon.now (length figures.old)) result.figures
         × (figures.new ≡ after_joined_figures morning.now noon.now figures.old) }
-    ensures tells_of_2 { TellsOf (joined_all false morning.now noon.now (length books.old)) result.books
+    ensures books { TellsOf (joined_all false morning.now noon.now (length books.old)) result.books
         × (books.new ≡ after_joined_all false morning.now noon.now books.old) }
-    ensures tells_of_3 { TellsOf (joined_all true morning.now noon.now (length uses.old)) result.uses
+    ensures uses { TellsOf (joined_all true morning.now noon.now (length uses.old)) result.uses
         × (uses.new ≡ after_joined_all true morning.now noon.now uses.old) }
 {
     let asked = questions::noon::ask_all(morning, noon, figures, books, uses);

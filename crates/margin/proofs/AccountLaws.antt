@@ -40,7 +40,7 @@ use Rattle.margin.proofs.AnswerLaws.{book_by-steps}
 use Rattle.formulas.specs.code.Sums.{interleaved, deltas_in, spreads_at}
 use Rattle.formulas.specs.code.Tables.{TableOf}
 use Rattle.formulas.specs.code.Table.{tier_of, TiersFrom, TableRoom, LinesRise, CreditsRoom, CreditsOf, earns}
-use Rattle.margin.proofs.AcceptLaws.{entries_within, numbers_rise}
+use Rattle.margin.proofs.AcceptLaws.{numbers_rise}
 use Rattle.formulas.proofs.BookLaws.{first_at_lem, second_at, over_arrays}
 use Rattle.formulas.proofs.CreditLaws.{credits_by_lem}
 use Rattle.margin.proofs.FigureLaws.{Lined, Apart, Credited, tiers_are, tiers_sound, tier_sizes, unused_is, entry_use_within, figures_are}

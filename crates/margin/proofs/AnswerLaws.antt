@@ -11,7 +11,7 @@ use lib.Dec.{eqb}
 use lib.IntN.{ℤ, pos}
 use lib.ListN.{length, get_or, take, length-append, length-map}
 use lib.Seq.{sets, length-take-le}
-use Rattle.record.specs.Layout.{Record, tier}
+use Rattle.record.specs.Layout.{Record}
 use Rattle.account.specs.Lawful.{Lawful}
 use Rattle.account.specs.Records.{records, record_count}
 use Rattle.account.specs.Parts.{prompts_of, rows_of, entries_of}

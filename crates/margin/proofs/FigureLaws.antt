@@ -12,7 +12,7 @@ use lib.Dec.{eqb, leb, ltb}
 use lib.IntN.{ℤ, pos, negsuc, nat_abs}
 use lib.ListN.{length, get_or, drop, set, length-map}
 use lib.Seq.{sets, drop-cons, drop-length}
-use Rattle.record.specs.Layout.{Record, contract}
+use Rattle.record.specs.Layout.{Record}
 use Rattle.account.specs.Parts.{contracts_of, entries_of}
 use Rattle.spread.specs.Accepted.{every, sound_prompt, tier_count}
 use Rattle.spread.specs.Steps.{Market, long, short, Open, on_side, pool, steps, numbers}

@@ -11,7 +11,7 @@ use native.Mathlib.Omega.{arith}
 use lib.IntN.{ℤ, pos, nat_abs}
 use lib.ListN.{length, get_or, take, drop, set, length-set, length-map}
 use lib.Seq.{sets, get_or-set_same, get_or-set_other, drop-set-lt, drop-drop, drop-nil, length-take-le, get_or-take}
-use Rattle.record.specs.Layout.{Record, contract}
+use Rattle.record.specs.Layout.{Record}
 use Rattle.account.specs.Check.{most_contracts}
 use Rattle.account.specs.Lawful.{Lawful}
 use Rattle.account.specs.Parts.{contracts_of}

@@ -47,7 +47,7 @@ use Rattle.formulas.proofs.LineLaws.{spreads_sound}
 use Rattle.formulas.proofs.NetLaws.{all_rows_lem}
 use Rattle.formulas.proofs.RecordLaws.{count_is}
 use Rattle.margin.proofs.StandLaws.{entries_fit}
-use Rattle.formulas.proofs.StepBounds.{sizes, number_within}
+use Rattle.formulas.proofs.StepBounds.{sizes}
 use Rattle.formulas.proofs.TableLaws.{Tiered, tiered_next, tiered_all, entry_accepted}
 
 -- a contract's number and net delta, by what its rows come to

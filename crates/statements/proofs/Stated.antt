@@ -18,11 +18,11 @@ use Rattle.account.proofs.Whole.{whole_file, whole_pair}
 use Rattle.margin.specs.Books.{asks, contract_book, of_each, of_question, table_book, table_question}
 use Rattle.formulas.specs.Contract.{Contract, contract_from, contracts, parts_in}
 use Rattle.formulas.specs.Deltas.{row_delta, of_day, net_delta, net_deltas}
-use Rattle.margin.specs.Figures.{figures, figures_over}
+use Rattle.margin.specs.Figures.{figures_over}
 use Rattle.formulas.specs.Margin.{short_options, short_lots}
 use Rattle.margin.specs.Questions.{if_accepted, numbers_for, answers, answer_over, afterwards, after_over}
 use Rattle.formulas.specs.Scanning.{product, total, totals, scenarios}
-use Rattle.margin.specs.Uses.{contract_uses, table_uses, uses}
+use Rattle.margin.specs.Uses.{contract_uses, table_uses}
 use Rattle.margin.specs.declared.asking.Question.{Question}
 use Rattle.margin.specs.declared.asking.Question.TheVariants.{Figures, Book, Uses}
 use Rattle.statements.specs.Statements.{Rearranged, other_records, SameButOrder, AnswerAlike, AskedAlike, RowsOfBoth, AtMostTheSum, Statements}

@@ -1,6 +1,5 @@
 -- The answer to a delta book, told to C, and the lent numbers as the question leaves them.
 -- Assumes nothing.
-use borrow.Author.Rules.{rules}
 use mathlib.Core.Path.{subst}
 use Rattle.account.specs.declared.answers.Answer.{Answer}
 use Rattle.felgotany.specs.code.Outcomes.{Tells}

@@ -1,6 +1,5 @@
 -- The call, told to C.
 -- Assumes nothing.
-use borrow.Author.Rules.{rules}
 use mathlib.Core.Path.{refl, ap, ap₂, subst, ◌∙◌}
 use Rattle.questions.specs.declared.noon.Call.{Call}
 use lib.IntN.{ℤ}

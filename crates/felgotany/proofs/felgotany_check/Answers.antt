@@ -1,6 +1,5 @@
 -- The check's answer, told to C.
 -- Assumes nothing.
-use borrow.Author.Rules.{rules}
 use mathlib.Core.Path.{subst}
 use Rattle.account.specs.declared.answers.Answer.{Answer}
 use Rattle.felgotany.specs.code.Outcomes.{Tells}

@@ -1,6 +1,5 @@
 -- The answer of the committee's figures, told to C, and the lent numbers as they are left.
 -- Assumes nothing.
-use borrow.Author.Rules.{rules}
 use mathlib.Core.Path.{subst}
 use Rattle.account.specs.declared.answers.Answer.{Answer}
 use Rattle.felgotany.specs.code.Outcomes.{Tells}

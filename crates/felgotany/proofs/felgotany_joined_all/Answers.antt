@@ -1,6 +1,5 @@
 -- The verdicts on all questions to a pair of files, told to C, and the lent numbers as they leave them.
 -- Assumes nothing.
-use borrow.Author.Rules.{rules}
 use mathlib.Core.Path.{subst}
 use Rattle.account.specs.declared.noon.Verdict.{Verdict}
 use Rattle.felgotany.specs.code.Outcomes.{TellsOf}
@@ -10,7 +9,7 @@ pub returns : goal.returns
 returns c =
     let f = c.ask_all-asked.ensures in
     record {
-      tells_of = (subst (λ (v : Verdict). TellsOf v c.tell_of-first.result) f.figures_answer_lem c.tell_of-first.ensures, f.figures-after);
-      tells_of_2 = (subst (λ (v : Verdict). TellsOf v c.tell_of-second.result) f.books_answer_lem c.tell_of-second.ensures, f.books_after_lem);
-      tells_of_3 = (subst (λ (v : Verdict). TellsOf v c.tell_of-third.result) f.uses_answer_lem c.tell_of-third.ensures, f.uses-after);
+      figures = (subst (λ (v : Verdict). TellsOf v c.tell_of-first.result) f.figures_answer_lem c.tell_of-first.ensures, f.figures-after);
+      books = (subst (λ (v : Verdict). TellsOf v c.tell_of-second.result) f.books_answer_lem c.tell_of-second.ensures, f.books_after_lem);
+      uses = (subst (λ (v : Verdict). TellsOf v c.tell_of-third.result) f.uses_answer_lem c.tell_of-third.ensures, f.uses-after);
     }

@@ -1,6 +1,5 @@
 -- The verdict on the delta book of a joined account, told to C, and the lent numbers as the question leaves them.
 -- Assumes nothing.
-use borrow.Author.Rules.{rules}
 use mathlib.Core.Path.{subst}
 use Rattle.account.specs.declared.noon.Verdict.{Verdict}
 use Rattle.felgotany.specs.code.Outcomes.{TellsOf}

@@ -1,6 +1,5 @@
 -- What is said of a list for the joined account, told to C.
 -- Assumes nothing.
-use borrow.Author.Rules.{rules}
 use mathlib.Core.Path.{refl, subst}
 use Rattle.lists.specs.declared.JudgedPair.{JudgedPair}
 use Rattle.felgotany.specs.code.Outcomes.{TellsPairList}

@@ -1,6 +1,5 @@
 -- The place, told to C.
 -- Assumes nothing.
-use borrow.Author.Rules.{rules}
 use mathlib.Core.Path.{refl, subst}
 use Rattle.account.specs.declared.noon.Place.{Place}
 use Rattle.felgotany.specs.code.Outcomes.{TellsPlace}

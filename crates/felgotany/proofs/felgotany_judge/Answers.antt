@@ -1,6 +1,5 @@
 -- What is said of a list, told to C.
 -- Assumes nothing.
-use borrow.Author.Rules.{rules}
 use mathlib.Core.Path.{subst}
 use Rattle.margin.specs.declared.lists.Judged.{Judged}
 use Rattle.felgotany.specs.code.Outcomes.{TellsList}

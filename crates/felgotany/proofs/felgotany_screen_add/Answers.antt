@@ -1,6 +1,5 @@
 -- What is said of a ticket that is to be added, told to C, and the lent bytes as they are left.
 -- Assumes nothing.
-use borrow.Author.Rules.{rules}
 use mathlib.Core.Path.{subst}
 use Rattle.screen.specs.declared.Added.{Added}
 use Rattle.felgotany.specs.code.Outcomes.{TellsAdded}

@@ -1,6 +1,5 @@
 -- What is said of a ticket that is asked about, told to C.
 -- Assumes nothing.
-use borrow.Author.Rules.{rules}
 use mathlib.Core.Path.{ap, subst, ◌∙◌}
 use Rattle.exact.proofs.Integers.{back}
 use Rattle.screen.specs.Screen.{limited}

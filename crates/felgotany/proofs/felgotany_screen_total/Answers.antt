@@ -1,6 +1,5 @@
 -- The total of the held account, told to C.
 -- Assumes nothing.
-use borrow.Author.Rules.{rules}
 use mathlib.Core.Path.{subst}
 use Rattle.screen.specs.declared.Told.{Told}
 use Rattle.felgotany.specs.code.Outcomes.{TellsTotal}

@@ -1,6 +1,5 @@
 -- A ticket, told to C.
 -- Assumes nothing.
-use borrow.Author.Rules.{rules}
 use mathlib.Core.Path.{subst}
 use Rattle.tickets.specs.declared.ask.Asked.{Asked}
 use Rattle.felgotany.specs.code.Outcomes.{TellsAsked}

@@ -1,6 +1,5 @@
 -- The file of entries, told to C.
 -- Assumes nothing.
-use borrow.Author.Rules.{rules}
 use mathlib.Core.Path.{ap, ◌∙◌}
 use Rattle.account.specs.Answers.{number_of, record_of}
 use Rattle.felgotany.proofs.felgotany_write.Goals as goal

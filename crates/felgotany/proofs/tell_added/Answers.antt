@@ -1,6 +1,5 @@
 -- What is said of a ticket that is to be added, as numbers.
 -- Assumes nothing.
-use borrow.Author.Rules.{rules}
 use mathlib.Core.Path.{ap, ◌∙◌}
 use Rattle.account.specs.Answers.{number_of, record_of}
 use Rattle.felgotany.proofs.tell_added.Goals as goal

@@ -1,6 +1,5 @@
 -- What a ticket is told, as numbers.
 -- Assumes nothing.
-use borrow.Author.Rules.{rules}
 use mathlib.Core.Path.{refl}
 use Rattle.felgotany.proofs.tell_asked.Goals as goal
 

@@ -1,6 +1,5 @@
 -- What is said of a total, as numbers.
 -- Assumes nothing.
-use borrow.Author.Rules.{rules}
 use mathlib.Core.Path.{ap, ◌∙◌}
 use Rattle.account.specs.Answers.{number_of, record_of}
 use Rattle.felgotany.proofs.tell_total.Goals as goal

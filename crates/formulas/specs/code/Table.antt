@@ -4,8 +4,7 @@ use Rattle.std.specs.Prelude.{ℕ, ◌+◌, ◌≤◌, ◌<◌, ◌≡◌, true,
 use Rattle.record.specs.Layout.{Record, percent, most_contract}
 use Rattle.account.specs.Check.{most_contracts, most_entries}
 use Rattle.spread.specs.Accepted.{every, sound_prompt, open_of}
-use Rattle.spread.specs.code.Book.{by_place as places}
-use Rattle.spread.specs.Steps.{Open, numbers}
+use Rattle.spread.specs.Steps.{Open}
 use Rattle.spread.specs.declared.Prompts.{Prompts}
 use Rattle.spread.specs.declared.Spreads.{Spreads}
 use Rattle.formulas.specs.declared.amount.Amount.{Amount}

@@ -2,7 +2,6 @@
 -- Assumes nothing.
 use mathlib.Core.Path.{◌≡◌, sym, ◌∙◌}
 use native.Mathlib.Omega.{arith}
-use borrow.Author.Rules.{rules}
 use Rattle.account.specs.Answers.{number_of}
 use Rattle.lists.proofs.ListLaws.{list_refused, file_stands, list_accepted}
 use Rattle.lists.proofs.judge.Goals as goal

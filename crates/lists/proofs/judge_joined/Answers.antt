@@ -2,7 +2,6 @@
 -- Assumes nothing.
 use mathlib.Core.Path.{◌≡◌, sym, ◌∙◌}
 use native.Mathlib.Omega.{arith}
-use borrow.Author.Rules.{rules}
 use Rattle.account.specs.Answers.{number_of}
 use Rattle.lists.proofs.ListLaws.{pair_refused, pair_stands, pair_accepted}
 use Rattle.lists.proofs.judge_joined.Goals as goal

@@ -1,13 +1,9 @@
 -- The lengths add up to the whole where each can be taken from what is left of it, and nothing is left.
 -- Assumes nothing.
-use mathlib.Core.Path.{◌≡◌, sym, ap}
-use Prim.Native.Nat.{ℕ, suc, ◌+◌, ◌-◌, ◌≤◌, zero-le}
-use native.Mathlib.Omega.{arith}
-use borrow.Author.Rules.{rules}
-use borrow.Author.Tests.{ne_eqb}
-use lib.ListN.{length, drop, drop_of_length-le}
+use mathlib.Core.Path.{◌≡◌}
+use Prim.Native.Nat.{◌+◌, ◌-◌, ◌≤◌}
+use lib.ListN.{length, drop}
 use Rattle.exact.specs.Lists.{sum}
-use Rattle.runs.proofs.RunLaws.{sum_next, left_over_lem}
 use Rattle.runs.proofs.add_up.Given as goal
 
 abbrev pub invariant-loop-i : goal.invariant-loop-i

@@ -4,7 +4,6 @@ use mathlib.Core.Path.{ap₂, ◌∙◌}
 use mathlib.Core.List.{[], ◌∷◌, ◌++◌}
 use Prim.Native.Nat.{ℕ, ◌+◌, ◌*◌}
 use native.Mathlib.Omega.{arith}
-use borrow.Author.Rules.{rules}
 use lib.ListN.{length-set, take, drop}
 use Rattle.runs.specs.Runs.{outcome_numbers}
 use Rattle.runs.proofs.PlaceLaws.{two_at}

@@ -3,7 +3,6 @@
 use mathlib.Core.Path.{◌≡◌, sym, ap, ◌∙◌}
 use mathlib.Core.List.{[], ◌∷◌}
 use native.Mathlib.Omega.{arith}
-use borrow.Author.Rules.{rules}
 use Rattle.account.specs.Answers.{number_of}
 use Rattle.screen.proofs.ScreenLaws.{order_refused, from_check, order_accepted}
 use Rattle.screen.proofs.ask_order.Goals as goal

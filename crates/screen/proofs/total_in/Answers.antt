@@ -2,7 +2,6 @@
 -- Assumes nothing.
 use mathlib.Core.Path.{◌≡◌, sym, ◌∙◌}
 use native.Mathlib.Omega.{arith}
-use borrow.Author.Rules.{rules}
 use Rattle.account.specs.Answers.{number_of}
 use Rattle.screen.proofs.ScreenLaws.{total_refused, file_stands, total_accepted}
 use Rattle.screen.proofs.total_in.Goals as goal

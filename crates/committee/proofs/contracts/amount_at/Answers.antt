@@ -1,6 +1,5 @@
 -- A number of the figures, none of which is negative.
 -- Assumes nothing.
-use borrow.Author.Rules.{rules}
 use lib.IntN.{pos}
 use lib.ListN.{get_or}
 use Rattle.exact.specs.Signed.{or_zero}

@@ -1,7 +1,5 @@
 use native.Mathlib.Omega.{arith}
-use Prim.Native.Nat.{◌-◌}
-use Rattle.account.specs.Check.{most_contracts}
-use Rattle.committee.proofs.OverContracts.{SoFar, start, margin_small, credits_small, above_small, next, finish}
+use Rattle.committee.proofs.OverContracts.{start, margin_small, credits_small, above_small, next, finish}
 use Rattle.committee.proofs.contracts.found_in.Goals as goal
 
 pub loop-i-init : goal.loop-i-init

@@ -1,9 +1,8 @@
 -- A contract after the other, over all places.
 -- Assumes nothing.
-use native.Mathlib.Omega.{arith}
 use Prim.Native.Nat.{◌-◌}
 use Rattle.account.specs.Check.{most_contracts}
-use Rattle.committee.proofs.OverContracts.{SoFar, start, margin_small, credits_small, above_small, next, finish}
+use Rattle.committee.proofs.OverContracts.{SoFar}
 use Rattle.committee.proofs.contracts.found_in.Given as goal
 
 abbrev pub invariant-loop-i : goal.invariant-loop-i

@@ -1,6 +1,5 @@
 -- Each sum with what the account adds; the largest margin and its place, by whether the account leads.
 -- Assumes nothing.
-use borrow.Author.Rules.{rules}
 use native.Mathlib.Omega.{arith}
 use Prim.Native.Nat.{ℕ, ◌+◌, ◌-◌}
 use mathlib.Core.Path.{refl, ap}

@@ -21,8 +21,8 @@ loop-i-preserved c =
     let ts = c.args.totals in
     let fits : SFits w64 (get_or ts (l.i - 1) (pos 0)) = record { sfits = c.or_earlier-arg-1.given } in
     next ts l.i l.best.value c.or_earlier-earlier.result.value l.best.number c.or_earlier-earlier.result.number (omega arith) l.invariant
-    (seen (λ (x : ℤ). larger x l.best.value) (get_or ts (l.i - 1) (pos 0)) fits c.or_earlier-earlier.ensures.value_value)
-    (seen (λ (x : ℤ). cond (lt_z x l.best.value) l.best.number (l.i - 1 + 1)) (get_or ts (l.i - 1) (pos 0)) fits c.or_earlier-earlier.ensures.number_value)
+    (seen (λ (x : ℤ). larger x l.best.value) (get_or ts (l.i - 1) (pos 0)) fits c.or_earlier-earlier.ensures.value)
+    (seen (λ (x : ℤ). cond (lt_z x l.best.value) l.best.number (l.i - 1 + 1)) (get_or ts (l.i - 1) (pos 0)) fits c.or_earlier-earlier.ensures.number)
 
 pub returns : goal.returns
 returns c =

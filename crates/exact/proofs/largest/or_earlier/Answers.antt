@@ -10,10 +10,10 @@ pub returns-then-below : goal.returns-then-below
 returns-then-below c =
     let best : SFits w64 c.args.best.value = record { sfits = c.struct_told-1.given.0.1 } in
     let e = sym (seen₂ lt_z c.args.value c.args.best.value c.ranges.value best c.below.ensures) ∙ c.if-below.true in
-    record { value_value = rw e; number_value = rw e }
+    record { value = rw e; number = rw e }
 
 pub returns : goal.returns
 returns c =
     let best : SFits w64 c.args.best.value = record { sfits = c.struct_told-1.given.0.1 } in
     let e = sym (seen₂ lt_z c.args.value c.args.best.value c.ranges.value best c.below.ensures) ∙ c.if-below.false in
-    record { value_value = rw e (back c.args.value c.ranges.value); number_value = rw e }
+    record { value = rw e (back c.args.value c.ranges.value); number = rw e }

@@ -4,7 +4,6 @@ use mathlib.Core.Path.{◌≡◌, ◌∙◌, ap}
 use Prim.Native.Nat.{ℕ, ◌+◌, ◌*◌, ◌/◌}
 use native.Mathlib.Nat.{le-mul_of_pos_right}
 use native.Mathlib.Omega.{arith}
-use borrow.Author.Rules.{rules}
 use Rattle.formulas.specs.Credit.{credit}
 use Rattle.formulas.proofs.AmountLaws.{CreditParts, credit-parts}
 use Rattle.formulas.proofs.amount.credit.Goals as goal

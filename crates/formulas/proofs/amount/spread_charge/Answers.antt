@@ -3,7 +3,6 @@
 use mathlib.Core.Path.{subst⁻¹}
 use Prim.Native.Nat.{ℕ, ◌≤◌}
 use native.Mathlib.Omega.{arith}
-use borrow.Author.Rules.{rules}
 use Rattle.formulas.specs.Bounds.{most_charge}
 use Rattle.formulas.proofs.AmountLaws.{spreads_rate, charged_within}
 use Rattle.formulas.proofs.amount.spread_charge.Goals as goal

@@ -4,7 +4,6 @@ use mathlib.Core.Path.{◌≡◌, sym, subst⁻¹}
 use Prim.Native.Nat.{ℕ, zero-le}
 use native.Mathlib.Nat.{mod-lt, pos_of_ne-zero}
 use native.Mathlib.Omega.{arith}
-use borrow.Author.Rules.{rules}
 use Rattle.formulas.specs.Credit.{unit_price_risk}
 use Rattle.formulas.proofs.AmountLaws.{unit-parts, unit-none}
 use Rattle.formulas.proofs.amount.unit_price_risk.Goals as goal

@@ -1,11 +1,9 @@
 use mathlib.Core.Path.{sym, ◌∙◌}
-use Prim.Native.Nat.{◌-◌}
 use native.Mathlib.Omega.{arith}
 use lib.IntN.{pos}
 use lib.ListN.{get_or}
 use Rattle.exact.proofs.Integers.{back}
-use Rattle.spread.specs.Accepted.{prompt_places}
-use Rattle.formulas.proofs.LentLaws.{Copied, start, next, finish}
+use Rattle.formulas.proofs.LentLaws.{start, next, finish}
 use Rattle.formulas.proofs.books.put_unused.Goals as goal
 
 pub loop-i-init : goal.loop-i-init

@@ -3,7 +3,6 @@
 use mathlib.Core.Path.{sym, ◌∙◌}
 use Prim.Native.Nat.{◌<◌}
 use native.Mathlib.Omega.{arith}
-use borrow.Author.Rules.{rules}
 use Rattle.account.specs.Check.{most_contracts}
 use Rattle.formulas.proofs.EarnedLaws.{none-formed, second_fits, with_entry}
 use Rattle.formulas.proofs.charges.add_credits.Goals as goal

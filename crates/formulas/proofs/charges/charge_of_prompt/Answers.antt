@@ -3,7 +3,6 @@
 use mathlib.Core.Path.{◌∙◌, ap₂}
 use Prim.Native.Nat.{ℕ}
 use Rattle.formulas.specs.Charges.{prompt_charge}
-use borrow.Author.Rules.{rules}
 use Rattle.formulas.proofs.charges.charge_of_prompt.Goals as goal
 
 pub returns : goal.returns

@@ -1,7 +1,6 @@
 -- What a contract earns from an entry, where it has a net delta.
 -- Assumes nothing.
 use native.Mathlib.Omega.{arith}
-use borrow.Author.Rules.{rules}
 use Rattle.formulas.specs.code.Table.{earner_at}
 use Rattle.formulas.proofs.EarnedLaws.{no_net}
 use Rattle.formulas.proofs.charges.credit_at.Goals as goal

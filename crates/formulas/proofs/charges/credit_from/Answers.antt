@@ -4,7 +4,6 @@ use mathlib.Core.Path.{sym, ◌∙◌, ap₂}
 use Prim.Native.Nat.{ℕ}
 use native.Mathlib.Omega.{arith}
 use Rattle.formulas.specs.Credit.{credit}
-use borrow.Author.Rules.{rules}
 use Rattle.formulas.proofs.SumLaws.{nothing_used}
 use Rattle.formulas.proofs.charges.credit_from.Goals as goal
 

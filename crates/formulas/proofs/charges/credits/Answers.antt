@@ -1,6 +1,6 @@
 use mathlib.Core.Path.{◌≡◌, sym, ◌∙◌, subst, subst₂, subst⁻¹}
 use mathlib.Core.List.{[]}
-use Prim.Native.Nat.{ℕ, ◌-◌, ◌<◌}
+use Prim.Native.Nat.{ℕ, ◌<◌}
 use native.Mathlib.Omega.{arith}
 use lib.ListN.{length, length-map, get_or}
 use Rattle.spread.specs.Accepted.{spread_places}
@@ -10,7 +10,7 @@ use Rattle.account.specs.Records.{records, record_count}
 use Rattle.formulas.specs.code.Table.{earner_at, EntryRoom, WithEntry}
 use Rattle.formulas.proofs.LentLaws.{spread_from}
 use Rattle.formulas.proofs.RecordLaws.{lent_at, below_records, length_cut}
-use Rattle.formulas.proofs.EarnedLaws.{Walked, walk_start, walk_next, walk_all}
+use Rattle.formulas.proofs.EarnedLaws.{walk_start, walk_next, walk_all}
 use Rattle.formulas.proofs.charges.credits.Goals as goal
 
 pub loop-i-init : goal.loop-i-init

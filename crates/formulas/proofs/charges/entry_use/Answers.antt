@@ -1,7 +1,6 @@
 -- What an entry uses of its first contract, of its second, and of any other.
 -- Assumes nothing.
 use mathlib.Core.Path.{◌∙◌}
-use borrow.Author.Rules.{rules}
 use Rattle.formulas.proofs.SumLaws.{use_first, use_second, use_none}
 use Rattle.formulas.proofs.charges.entry_use.Goals as goal
 

@@ -1,17 +1,16 @@
 use mathlib.Core.Path.{◌∙◌, sym, ap, ap₂, subst, subst⁻¹}
 use mathlib.Core.List.{List, []}
-use Prim.Native.Nat.{ℕ, ◌+◌, ◌-◌}
+use Prim.Native.Nat.{ℕ, ◌+◌}
 use native.Mathlib.Omega.{arith}
 use lib.ListN.{get_or}
 use Rattle.spread.specs.code.Lent.{spreads_from}
 use Rattle.record.specs.Layout.{Record, rate_per_spread}
 use Rattle.account.specs.Records.{records, record_count}
-use Rattle.formulas.specs.Bounds.{most_charge}
 use Rattle.formulas.specs.Charges.{spread_charge}
 use Rattle.formulas.specs.code.Sums.{spreads_at, SpreadRoom}
 use Rattle.formulas.proofs.LentLaws.{spread_from}
 use Rattle.formulas.proofs.RecordLaws.{lent_at, below_records, length_cut}
-use Rattle.formulas.proofs.SumLaws.{ToGo, start, next, finish, charge_from, charge_step, charge_none}
+use Rattle.formulas.proofs.SumLaws.{start, next, finish, charge_from, charge_step, charge_none}
 use Rattle.formulas.proofs.charges.interprompt_charge.Goals as goal
 
 -- the room of a spread, by the lent numbers

@@ -1,7 +1,6 @@
 -- What a step takes of a contract: the product fits, and of tenths it is rounded.
 -- Assumes nothing.
 use native.Mathlib.Omega.{arith}
-use borrow.Author.Rules.{rules}
 use Rattle.formulas.proofs.SumLaws.{step_product, rounded_small}
 use Rattle.formulas.proofs.charges.step_use.Goals as goal
 

@@ -1,11 +1,10 @@
 use mathlib.Core.Path.{◌≡◌, refl, ap, ◌∙◌}
 use mathlib.Core.List.{List, map}
-use Prim.Native.Nat.{ℕ, ◌-◌, ◌≤◌, ◌<◌}
+use Prim.Native.Nat.{ℕ, ◌≤◌, ◌<◌}
 use native.Mathlib.Omega.{arith}
 use lib.IntN.{ℤ, pos, nat_abs, ◌+ℤ◌}
 use lib.ListN.{length, get_or, take}
 use lib.Seq.{take_all}
-use Rattle.spread.specs.Accepted.{prompt_places}
 use Rattle.exact.specs.Lists.{sum, sum_ℤ}
 use Rattle.formulas.specs.Bounds.{most_delta}
 use Rattle.exact.proofs.Integers.{back, sfits_abs}

@@ -2,7 +2,6 @@
 -- Assumes nothing.
 use mathlib.Core.Path.{sym}
 use native.Mathlib.Omega.{arith}
-use borrow.Author.Rules.{rules}
 use Rattle.formulas.proofs.PairLaws.{pair_at, no_pair}
 use Rattle.formulas.proofs.pairs.pair_of.Goals as goal
 

@@ -3,7 +3,6 @@
 use mathlib.Core.Path.{subst⁻¹}
 use Prim.Native.Nat.{◌≤◌, ◌*◌}
 use native.Mathlib.Omega.{arith}
-use borrow.Author.Rules.{rules}
 use lib.IntN.{ℤ, nat_abs, ◌+ℤ◌}
 use Rattle.exact.proofs.Integers.{abs_add}
 use Rattle.formulas.specs.Credit.{total_of}

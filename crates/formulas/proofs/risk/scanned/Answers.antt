@@ -3,7 +3,6 @@
 use mathlib.Core.Path.{◌≡◌, ◌∙◌, ap, subst⁻¹}
 use Prim.Native.Nat.{ℕ, ◌≤◌}
 use native.Mathlib.Nat.{le_trans}
-use borrow.Author.Rules.{rules}
 use Rattle.exact.specs.Signed.{or_zero}
 use Rattle.exact.specs.Largest.{largest}
 use Rattle.exact.proofs.Integers.{seen, or_zero_abs}

@@ -3,7 +3,6 @@
 use mathlib.Core.Path.{sym}
 use lib.IntN.{pos}
 use lib.ListN.{get_or-eq_default}
-use borrow.Author.Rules.{rules}
 use Rattle.formulas.proofs.risk.total_at.Goals as goal
 
 pub returns-else-at-totals : goal.returns-else-at-totals

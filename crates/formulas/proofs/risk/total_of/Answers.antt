@@ -5,7 +5,6 @@ use mathlib.Core.Path.{ap, ◌∙◌}
 use lib.IntN.{pos}
 use lib.ListN.{get_or}
 use Rattle.exact.proofs.Integers.{back}
-use borrow.Author.Rules.{rules}
 use Rattle.formulas.proofs.risk.total_of.Goals as goal
 
 pub returns : goal.returns

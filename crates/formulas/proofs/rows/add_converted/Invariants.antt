@@ -1,22 +1,8 @@
 -- `add_converted`: each turn adds one product, converted.
 -- Assumes nothing.
-use mathlib.Core.Path.{◌≡◌, refl, sym, ◌∙◌, ap, ap₂, subst}
-use Prim.Native.Nat.{ℕ, ◌+◌, ◌-◌, ◌*◌, ◌≤◌}
-use native.Mathlib.Omega.{arith}
-use lib.IntN.{ℤ, pos, nat_abs, ◌*ℤ◌}
-use lib.ListN.{get_or}
-use borrow.Author.Rules.{rules}
-use Rattle.record.specs.Layout.{lots, value, loss, scenario_count}
-use mir.Syntax.{w64}
-use mir.Val.{to_z, of_z}
-use Rattle.exact.specs.Rounding.{half_away_to}
-use Rattle.exact.proofs.Integers.{back, sfits_abs}
-use Rattle.account.specs.Products.{converted_at, most_conversion}
-use Rattle.account.specs.Check.{most_rows}
-use Rattle.formulas.specs.Bounds.{most_product}
-use Rattle.formulas.specs.code.Position.{Sized, Added, converted_products}
-use Rattle.formulas.proofs.SignedCalls.{plus_fits, plus_is}
-use Rattle.formulas.proofs.AddedLaws.{start, next}
+use Prim.Native.Nat.{◌-◌, ◌≤◌}
+use Rattle.record.specs.Layout.{scenario_count}
+use Rattle.formulas.specs.code.Position.{Added, converted_products}
 use Rattle.formulas.proofs.rows.add_converted.Given as goal
 
 abbrev pub invariant-loop-s : goal.invariant-loop-s

@@ -3,9 +3,8 @@ use Prim.Native.Nat.{ℕ, ◌+◌, ◌-◌, ◌*◌, ◌≤◌}
 use native.Mathlib.Omega.{arith}
 use lib.IntN.{ℤ, pos, nat_abs, ◌*ℤ◌}
 use lib.ListN.{get_or}
-use borrow.Author.Rules.{rules}
 use Rattle.account.specs.Check.{most_rows}
-use Rattle.record.specs.Layout.{lots, value, loss, scenario_count}
+use Rattle.record.specs.Layout.{lots, value, loss}
 use mir.Syntax.{w64}
 use mir.Val.{to_z, of_z}
 use Rattle.exact.specs.Rounding.{half_away_to}

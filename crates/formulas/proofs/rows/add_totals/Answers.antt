@@ -4,7 +4,6 @@ use Prim.Native.Nat.{ℕ, zero, suc, ◌+◌, ◌-◌, ◌*◌, ◌/◌, ◌<◌
 use native.Mathlib.Omega.{arith}
 use lib.IntN.{ℤ}
 use lib.ListN.{length, get_or, take, drop}
-use borrow.Author.Rules.{rules}
 use Rattle.record.specs.Bytes.{record_bytes}
 use Rattle.record.specs.Layout.{Record, scenario_count, hundred_thousand}
 use Rattle.account.specs.code.Rates.{RatesOf}

@@ -1,19 +1,13 @@
 -- `days_of`: the days of the prompts before j are noted.
 -- Assumes nothing.
-use mathlib.Core.Path.{◌≡◌, refl, sym, ◌∙◌, ap}
+use mathlib.Core.Path.{◌≡◌}
 use mathlib.Core.List.{List, []}
-use Prim.Native.Nat.{ℕ, ◌+◌, ◌-◌, ◌/◌, ◌≤◌, ◌<◌}
-use native.Mathlib.Nat.{not-suc-le-zero}
-use native.Mathlib.Omega.{arith}
-use lib.ListN.{length, get_or, set, length-set}
-use lib.Seq.{get_or-set_same, get_or-set_other}
-use borrow.Author.Rules.{rules}
-use borrow.Author.Count.{below_more}
+use Prim.Native.Nat.{ℕ, ◌-◌, ◌/◌, ◌≤◌, ◌<◌}
+use lib.ListN.{length, get_or}
 use Rattle.spread.specs.Accepted.{prompt_places}
 use Rattle.record.specs.Bytes.{record_bytes}
 use Rattle.record.specs.Layout.{Record, day}
 use Rattle.account.specs.Records.{records}
-use Rattle.formulas.proofs.RecordLaws.{count_is, record_at_lem}
 use Rattle.formulas.proofs.rows.days_of.Given as goal
 
 -- the days of the first j prompts

@@ -1,8 +1,6 @@
 -- `earlier`: what is counted and what is left to halve stay within the places.
 -- Assumes nothing.
 use Prim.Native.Nat.{◌+◌, ◌*◌, ◌≤◌}
-use mathlib.Core.Logic.{⊎_elim}
-use native.Mathlib.Omega.{arith}
 use Rattle.spread.specs.Accepted.{prompt_places}
 use Rattle.formulas.proofs.rows.earlier.Given as goal
 

@@ -1,7 +1,4 @@
-use mathlib.Core.Path.{◌≡◌}
-use Prim.Native.Nat.{ℕ, ◌-◌, ◌≤◌, ◌<◌}
 use native.Mathlib.Omega.{arith}
-use lib.ListN.{get_or}
 use Rattle.formulas.proofs.PlacedLaws.{passed_one}
 use Rattle.formulas.proofs.rows.first_place.Goals as goal
 

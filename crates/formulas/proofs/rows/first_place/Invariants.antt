@@ -2,9 +2,7 @@
 -- Assumes nothing.
 use mathlib.Core.Path.{◌≡◌}
 use Prim.Native.Nat.{ℕ, ◌-◌, ◌≤◌, ◌<◌}
-use native.Mathlib.Omega.{arith}
 use lib.ListN.{get_or}
-use Rattle.formulas.proofs.PlacedLaws.{passed_one}
 use Rattle.formulas.proofs.rows.first_place.Given as goal
 
 abbrev pub invariant-loop-j : goal.invariant-loop-j

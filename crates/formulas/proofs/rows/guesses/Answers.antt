@@ -1,8 +1,7 @@
 use mathlib.Core.Path.{subst⁻¹}
-use Prim.Native.Nat.{ℕ, ◌-◌, ◌≤◌, ◌<◌}
+use Prim.Native.Nat.{ℕ, ◌<◌}
 use native.Mathlib.Omega.{arith}
 use Rattle.spread.proofs.Filling.{get_d_same}
-use Rattle.formulas.specs.code.Position.{Guessed}
 use Rattle.formulas.proofs.PlacedLaws.{guessed_more}
 use Rattle.formulas.proofs.rows.guesses.Goals as goal
 

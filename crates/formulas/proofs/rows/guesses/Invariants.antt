@@ -1,11 +1,7 @@
 -- `guesses`: the places before j.
 -- Assumes nothing.
-use mathlib.Core.Path.{subst⁻¹}
-use Prim.Native.Nat.{ℕ, ◌-◌, ◌≤◌, ◌<◌}
-use native.Mathlib.Omega.{arith}
-use Rattle.spread.proofs.Filling.{get_d_same}
+use Prim.Native.Nat.{◌-◌, ◌≤◌}
 use Rattle.formulas.specs.code.Position.{Guessed}
-use Rattle.formulas.proofs.PlacedLaws.{guessed_more}
 use Rattle.formulas.proofs.rows.guesses.Given as goal
 
 abbrev pub invariant-loop-j : goal.invariant-loop-j

@@ -2,7 +2,6 @@
 -- Assumes nothing.
 use mathlib.Core.Path.{refl, ◌∙◌}
 use native.Mathlib.Omega.{arith}
-use borrow.Author.Rules.{rules}
 use Rattle.exact.proofs.Integers.{back, sfits_abs}
 use Rattle.formulas.specs.Bounds.{most_delta, most_row_delta}
 use Rattle.formulas.specs.Deltas.{row_delta}

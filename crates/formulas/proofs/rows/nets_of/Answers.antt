@@ -2,7 +2,6 @@
 -- Assumes nothing.
 use mathlib.Core.List.{List}
 use mathlib.Core.Path.{refl, sym, subst}
-use borrow.Author.Rules.{rules}
 use Rattle.account.specs.Records.{records}
 use Rattle.spread.specs.declared.Delta.{Delta}
 use Rattle.formulas.specs.code.Position.{PositionOf, with_nets}

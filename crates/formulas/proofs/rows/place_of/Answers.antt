@@ -2,7 +2,6 @@
 -- Assumes nothing.
 use Prim.Native.Nat.{◌%◌, ◌<◌}
 use native.Mathlib.Omega.{arith}
-use borrow.Author.Rules.{rules}
 use lib.ListN.{get_or}
 use Rattle.formulas.proofs.PlacedLaws.{found_first}
 use Rattle.formulas.proofs.rows.place_of.Goals as goal

@@ -2,7 +2,6 @@
 -- Assumes nothing.
 use mathlib.Core.Path.{sym, subst}
 use mathlib.Core.List.{List}
-use borrow.Author.Rules.{rules}
 use Rattle.spread.specs.declared.Delta.{Delta}
 use Rattle.account.specs.Records.{records}
 use Rattle.account.specs.Check.{most_rows}

@@ -8,7 +8,6 @@ use native.Mathlib.Omega.{arith}
 use lib.Dec.{lit≤}
 use lib.IntN.{ℤ, pos}
 use lib.ListN.{length, get_or, replicate}
-use borrow.Author.Rules.{rules}
 use Rattle.spread.specs.Accepted.{prompt_places}
 use Rattle.spread.specs.code.Lent.{deltas_from}
 use Rattle.record.specs.Layout.{Record, scenario_count}

@@ -5,7 +5,6 @@ use Prim.Native.Nat.{◌-◌, ◌≤◌}
 use native.Mathlib.Nat.{not-suc-le-zero}
 use native.Mathlib.Omega.{arith}
 use lib.ListN.{length}
-use borrow.Author.Rules.{rules}
 use Rattle.spread.specs.Accepted.{prompt_places}
 use Rattle.account.specs.Records.{records}
 use Rattle.account.specs.Check.{most_rows}

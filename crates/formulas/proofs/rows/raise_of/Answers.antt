@@ -3,7 +3,6 @@
 use mathlib.Core.Path.{sym, ◌∙◌, ap}
 use mathlib.Core.Bool.{Bool, cond}
 use Prim.Native.Nat.{◌+◌}
-use borrow.Author.Rules.{rules}
 use Rattle.exact.specs.Signed.{negative}
 use Rattle.exact.proofs.Integers.{seen}
 use Rattle.record.specs.Layout.{hundred_thousand}

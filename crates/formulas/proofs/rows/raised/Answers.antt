@@ -2,7 +2,6 @@
 -- Assumes nothing.
 use mathlib.Core.Path.{◌∙◌, ap, ap₂}
 use Prim.Native.Nat.{ℕ, ◌+◌, ◌^◌, ◌%◌}
-use borrow.Author.Rules.{rules}
 use Rattle.exact.proofs.Integers.{back}
 use Rattle.formulas.specs.code.Raised.{loss_bits, turned_bits}
 use Rattle.formulas.proofs.RaisedLaws.{raised_bits}

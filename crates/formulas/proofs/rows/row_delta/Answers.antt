@@ -1,7 +1,6 @@
 -- `row_delta`: at most 100,000 × 10,000.
 -- Assumes nothing.
 use native.Mathlib.Omega.{arith}
-use borrow.Author.Rules.{rules}
 use Rattle.record.specs.Layout.{lots, delta, hundred_thousand}
 use Rattle.formulas.proofs.SignedCalls.{times_fits, times_is, sized_back}
 use Rattle.formulas.proofs.rows.row_delta.Goals as goal

@@ -1,22 +1,9 @@
 -- `settle`: each turn adds to one total what its sums come to.
 -- Assumes nothing.
-use mathlib.Core.Path.{◌≡◌, refl, ◌∙◌, ap, subst}
-use Prim.Native.Nat.{ℕ, ◌-◌, ◌*◌, ◌≤◌, ◌<◌}
-use native.Mathlib.Omega.{arith}
-use lib.IntN.{ℤ, pos, nat_abs, ◌-ℤ◌}
-use lib.ListN.{get_or}
-use mir.Syntax.{w64}
-use mir.Val.{to_z, of_z}
-use Rattle.exact.specs.Signed.{Sized}
-use Rattle.exact.proofs.Integers.{back, sfits_abs}
-use Rattle.record.specs.Layout.{hundred_thousand, scenario_count}
-use Rattle.account.specs.Check.{most_rows}
-use Rattle.formulas.specs.Bounds.{most_product}
+use Prim.Native.Nat.{◌-◌, ◌≤◌}
+use Rattle.record.specs.Layout.{scenario_count}
 use Rattle.formulas.specs.code.Position.{Added}
-use Rattle.formulas.specs.code.Raised.{unraised_at, most_raised}
-use Rattle.formulas.proofs.AddedLaws.{start, next}
-use Rattle.formulas.proofs.RaisedLaws.{settled_is}
-use Rattle.formulas.proofs.SignedCalls.{plus_fits, plus_is}
+use Rattle.formulas.specs.code.Raised.{unraised_at}
 use Rattle.formulas.proofs.rows.settle.Given as goal
 
 abbrev pub invariant-loop-s : goal.invariant-loop-s

@@ -3,7 +3,6 @@
 use mathlib.Core.Path.{◌≡◌, refl, sym, ◌∙◌}
 use mathlib.Core.Bool.{true, false, false≢true, true≢false}
 use lib.IntN.{ℤ, pos, negsuc, nat_abs}
-use borrow.Author.Rules.{rules}
 use Rattle.exact.specs.Signed.{negative}
 use Rattle.exact.proofs.Integers.{seen}
 use Rattle.formulas.specs.Margin.{short}

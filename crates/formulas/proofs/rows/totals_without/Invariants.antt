@@ -1,19 +1,10 @@
 -- Each turn takes one total away.
 -- Assumes nothing.
-use mathlib.Core.Path.{◌≡◌, refl, ap, subst}
-use Prim.Native.Nat.{ℕ, ◌-◌, ◌*◌, ◌≤◌, ◌<◌}
-use native.Mathlib.Omega.{arith}
-use lib.IntN.{ℤ, pos, neg_ℤ, nat_abs, ◌-ℤ◌}
+use Prim.Native.Nat.{◌-◌, ◌≤◌}
+use lib.IntN.{pos, neg_ℤ}
 use lib.ListN.{get_or}
-use mir.Syntax.{w64}
-use mir.Val.{SFits, to_z, of_z}
 use Rattle.record.specs.Layout.{scenario_count}
-use Rattle.account.specs.Check.{most_rows}
-use Rattle.exact.proofs.Integers.{sfits_abs, abs_sub}
-use Rattle.formulas.specs.Bounds.{most_product}
 use Rattle.formulas.specs.code.Position.{Added}
-use Rattle.formulas.proofs.AddedLaws.{start, next}
-use Rattle.formulas.proofs.Calls.{op_fits, op_is}
 use Rattle.formulas.proofs.rows.totals_without.Given as goal
 
 abbrev pub invariant-loop-s : goal.invariant-loop-s

@@ -5,7 +5,6 @@ use mathlib.Core.List.{List}
 use Prim.Native.Nat.{◌+◌, ◌-◌, zero-le}
 use lib.IntN.{ℤ}
 use lib.ListN.{length}
-use borrow.Author.Rules.{rules}
 use Rattle.spread.specs.declared.Delta.{Delta}
 use Rattle.account.specs.code.Rates.{RatesOf}
 use Rattle.record.specs.Layout.{Record}

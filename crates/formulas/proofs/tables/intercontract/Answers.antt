@@ -1,7 +1,6 @@
 -- An intercontract spread: the first contract is A, the second B, and byte 8 says whether its ratios are tenths.
 -- Assumes nothing.
 use mathlib.Core.List.{[], ◌∷◌}
-use borrow.Author.Rules.{rules}
 use Rattle.formulas.proofs.tables.intercontract.Goals as goal
 
 pub returns : goal.returns

@@ -1,11 +1,9 @@
-use mathlib.Core.Path.{◌≡◌, ◌∙◌, ap, refl}
-use Prim.Native.Nat.{ℕ, ◌-◌}
+use mathlib.Core.Path.{◌∙◌, ap, refl}
+use Prim.Native.Nat.{ℕ}
 use native.Mathlib.Omega.{arith}
-use borrow.Author.Rules.{rules}
-use lib.ListN.{length, take, length-set}
-use Rattle.spread.specs.Accepted.{spread_places}
+use lib.ListN.{take, length-set}
 use Rattle.formulas.specs.Deltas.{intercontract}
-use Rattle.formulas.proofs.RecordLaws.{lent_record, Filled, start, next, finish}
+use Rattle.formulas.proofs.RecordLaws.{lent_record, start, next, finish}
 use Rattle.formulas.proofs.tables.intercontract_table.Goals as goal
 
 pub loop-i-init : goal.loop-i-init

@@ -1,13 +1,11 @@
 -- The table is filled record by record.
 -- Assumes nothing.
-use mathlib.Core.Path.{◌≡◌, ◌∙◌, ap, refl}
-use Prim.Native.Nat.{ℕ, ◌-◌}
-use native.Mathlib.Omega.{arith}
-use borrow.Author.Rules.{rules}
-use lib.ListN.{length, take, length-set}
+use mathlib.Core.Path.{◌≡◌}
+use Prim.Native.Nat.{◌-◌}
+use lib.ListN.{length}
 use Rattle.spread.specs.Accepted.{spread_places}
 use Rattle.formulas.specs.Deltas.{intercontract}
-use Rattle.formulas.proofs.RecordLaws.{lent_record, Filled, start, next, finish}
+use Rattle.formulas.proofs.RecordLaws.{Filled}
 use Rattle.formulas.proofs.tables.intercontract_table.Given as goal
 
 abbrev pub invariant-loop-i : goal.invariant-loop-i

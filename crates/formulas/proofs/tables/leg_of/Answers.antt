@@ -1,6 +1,5 @@
 -- A leg: its three fields.
 -- Assumes nothing.
-use borrow.Author.Rules.{rules}
 use Rattle.formulas.proofs.tables.leg_of.Goals as goal
 
 pub returns : goal.returns

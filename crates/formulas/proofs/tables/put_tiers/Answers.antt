@@ -1,11 +1,8 @@
-use mathlib.Core.Path.{◌≡◌, ◌∙◌, ap}
-use Prim.Native.Nat.{◌-◌}
+use mathlib.Core.Path.{◌∙◌, ap}
 use native.Mathlib.Omega.{arith}
-use borrow.Author.Rules.{rules}
-use lib.ListN.{length, length-set}
-use Rattle.spread.specs.Accepted.{prompt_places}
+use lib.ListN.{length-set}
 use Rattle.record.specs.Layout.{tier}
-use Rattle.formulas.proofs.RecordLaws.{lent_record, Filled, start, next, finish}
+use Rattle.formulas.proofs.RecordLaws.{lent_record, start, next, finish}
 use Rattle.formulas.proofs.tables.put_tiers.Goals as goal
 
 pub loop-i-init : goal.loop-i-init

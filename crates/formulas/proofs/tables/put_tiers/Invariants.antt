@@ -1,13 +1,11 @@
 -- The tiers are filled record by record.
 -- Assumes nothing.
-use mathlib.Core.Path.{◌≡◌, ◌∙◌, ap}
+use mathlib.Core.Path.{◌≡◌}
 use Prim.Native.Nat.{◌-◌}
-use native.Mathlib.Omega.{arith}
-use borrow.Author.Rules.{rules}
-use lib.ListN.{length, length-set}
+use lib.ListN.{length}
 use Rattle.spread.specs.Accepted.{prompt_places}
 use Rattle.record.specs.Layout.{tier}
-use Rattle.formulas.proofs.RecordLaws.{lent_record, Filled, start, next, finish}
+use Rattle.formulas.proofs.RecordLaws.{Filled}
 use Rattle.formulas.proofs.tables.put_tiers.Given as goal
 
 abbrev pub invariant-loop-i : goal.invariant-loop-i

@@ -6,7 +6,6 @@ use lib.ListN.{length}
 use Rattle.account.specs.Joined.{account_of}
 use Rattle.margin.specs.declared.asking.Question.TheVariants.{Figures}
 use Rattle.margin.proofs.QuestionLaws.{asked_many, figures-length, figures_refused}
-use borrow.Author.Rules.{rules}
 use Rattle.margin.proofs.asking.answer_figures.Goals as goal
 
 pub returns-then-out-figures_count : goal.returns-then-out-figures_count

@@ -5,7 +5,6 @@ use native.Mathlib.Omega.{arith}
 use lib.ListN.{length}
 use Rattle.margin.specs.declared.asking.Question.TheVariants.{Figures}
 use Rattle.margin.proofs.QuestionLaws.{asked_many, figures-length, figures_refused}
-use borrow.Author.Rules.{rules}
 use Rattle.margin.proofs.asking.figures_answer.Goals as goal
 
 pub returns-then-out-figures_count : goal.returns-then-out-figures_count

@@ -5,8 +5,6 @@ use mathlib.Core.Bool.{Bool, cond}
 use Prim.Native.Nat.{◌*◌, ◌≤◌}
 use native.Mathlib.Nat.{mul-le-mul}
 use native.Mathlib.Omega.{arith}
-use borrow.Author.Rules.{rules}
-use borrow.Author.Tests.{not-true, not-false}
 use lib.ListN.{length}
 use Rattle.formulas.specs.Bounds.{longest_uses}
 use Rattle.account.specs.code.Lent.{account_in}

@@ -2,7 +2,6 @@
 -- Assumes nothing.
 use Prim.Native.Nat.{◌≤◌}
 use native.Mathlib.Omega.{arith}
-use borrow.Author.Rules.{rules}
 use Rattle.spread.specs.Accepted.{sound_prompts, sound_table, prompt_places, spread_places}
 use Rattle.spread.proofs.Both.{and_left, and_right}
 use Rattle.spread.proofs.Gathering.{few, few_in_table}

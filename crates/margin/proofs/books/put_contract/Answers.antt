@@ -4,7 +4,6 @@ use mathlib.Core.Path.{ap, ◌∙◌}
 use native.Mathlib.Omega.{arith}
 use lib.Seq.{sets}
 use Rattle.margin.proofs.AnswerLaws.{contract_lent, contract-signed, contract-numbers}
-use borrow.Author.Rules.{rules}
 use Rattle.margin.proofs.books.put_contract.Goals as goal
 
 pub put_numbers-requires : goal.put_numbers-requires

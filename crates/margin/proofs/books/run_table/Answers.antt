@@ -1,7 +1,6 @@
 -- The numbers of the book that the steps run are those of the table.
 -- Assumes nothing.
 use native.Mathlib.Omega.{arith}
-use borrow.Author.Rules.{rules}
 use Rattle.margin.proofs.books.run_table.Goals as goal
 
 pub put_table-requires : goal.put_table-requires

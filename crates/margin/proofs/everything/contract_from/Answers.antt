@@ -2,7 +2,6 @@
 -- Assumes nothing.
 use mathlib.Core.Path.{◌≡◌, subst, subst⁻¹}
 use mathlib.Core.List.{List}
-use borrow.Author.Rules.{rules}
 use Rattle.record.specs.Layout.{Record}
 use Rattle.account.specs.Records.{records}
 use Rattle.account.specs.code.Lent.{account_in}

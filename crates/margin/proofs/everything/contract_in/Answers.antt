@@ -10,7 +10,6 @@ use Rattle.formulas.specs.code.Promised.{BookRoom}
 use Rattle.formulas.proofs.ContractLaws.{book-room}
 use Rattle.spread.proofs.Lent.{deltas_again}
 use Rattle.margin.proofs.BesideLaws.{book_is}
-use borrow.Author.Rules.{rules}
 use borrow.Author.Tests.{le-leb}
 use Rattle.margin.proofs.everything.contract_in.Goals as goal
 use Rattle.margin.proofs.everything.contract_in.Goals.{Start}

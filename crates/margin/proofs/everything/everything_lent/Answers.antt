@@ -5,7 +5,6 @@ use native.Mathlib.Omega.{arith}
 use Rattle.account.specs.Joined.{account_of}
 use Rattle.margin.proofs.QuestionLaws.{figures-length}
 use Rattle.margin.proofs.WalkedLaws.{answered_everything}
-use borrow.Author.Rules.{rules}
 use Rattle.margin.proofs.everything.everything_lent.Goals as goal
 
 pub returns : goal.returns

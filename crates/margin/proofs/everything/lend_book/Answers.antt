@@ -1,6 +1,6 @@
 -- A contract's book is written to its place where all places are lent, and else none is.
 -- Assumes nothing.
-use Prim.Native.Nat.{◌+◌, ◌*◌, ◌-◌, ◌≤◌}
+use Prim.Native.Nat.{◌+◌, ◌*◌, ◌≤◌}
 use mathlib.Core.List.{map}
 use native.Mathlib.Nat.{le_trans}
 use native.Mathlib.Omega.{arith}

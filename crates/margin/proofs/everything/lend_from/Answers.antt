@@ -7,7 +7,6 @@ use Rattle.account.specs.code.Lent.{account_in}
 use Rattle.margin.proofs.QuestionLaws.{figures-length}
 use Rattle.margin.proofs.StandLaws.{few_contracts}
 use Rattle.margin.proofs.WalkedLaws.{unlent_everything}
-use borrow.Author.Rules.{rules}
 use Rattle.margin.proofs.everything.lend_from.Goals as goal
 
 pub put_from-requires : goal.put_from-requires

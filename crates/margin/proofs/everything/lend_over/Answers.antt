@@ -4,7 +4,6 @@ use native.Mathlib.Omega.{arith}
 use Rattle.account.specs.Joined.{account_of}
 use Rattle.margin.proofs.QuestionLaws.{figures-length}
 use Rattle.margin.proofs.WalkedLaws.{unlent_everything}
-use borrow.Author.Rules.{rules}
 use Rattle.margin.proofs.everything.lend_over.Goals as goal
 
 pub returns : goal.returns

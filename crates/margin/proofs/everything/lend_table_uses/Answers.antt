@@ -4,7 +4,6 @@ use mathlib.Core.Path.{refl, subst⁻¹}
 use mathlib.Core.List.{List}
 use Prim.Native.Nat.{◌*◌}
 use native.Mathlib.Omega.{arith}
-use borrow.Author.Rules.{rules}
 use Rattle.record.specs.Layout.{Record}
 use Rattle.spread.specs.code.Lent.{prompts_in}
 use Rattle.spread.specs.declared.Delta.{Delta}

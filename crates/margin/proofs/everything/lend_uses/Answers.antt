@@ -3,7 +3,6 @@
 use mathlib.Core.Path.{sym}
 use Prim.Native.Nat.{◌*◌}
 use native.Mathlib.Omega.{arith}
-use borrow.Author.Rules.{rules}
 use Rattle.account.specs.Records.{records}
 use Rattle.formulas.specs.Bounds.{longest_uses}
 use Rattle.formulas.specs.code.Position.{position_in}

@@ -1,14 +1,13 @@
 use mathlib.Core.Path.{◌≡◌, sym, ◌∙◌}
-use Prim.Native.Nat.{◌-◌, ◌≤◌}
+use Prim.Native.Nat.{◌≤◌}
 use native.Mathlib.Omega.{arith}
-use borrow.Author.Rules.{rules}
 use lib.ListN.{length, length-map}
 use Rattle.account.specs.Check.{most_contracts}
 use Rattle.account.specs.code.Lent.{account_in}
 use Rattle.account.specs.Joined.{account_of}
 use Rattle.account.specs.Parts.{contracts_of}
 use Rattle.margin.proofs.StandLaws.{few_contracts}
-use Rattle.margin.proofs.WalkedLaws.{WalkedTo, walked_start, walked_next, walked_all}
+use Rattle.margin.proofs.WalkedLaws.{walked_start, walked_next, walked_all}
 use Rattle.margin.proofs.everything.place_over.Goals as goal
 use Rattle.margin.proofs.everything.place_over.Goals.{After-contract_total-count}
 

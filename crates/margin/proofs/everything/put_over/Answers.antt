@@ -9,7 +9,6 @@ use Rattle.margin.specs.Figures.{figures}
 use Rattle.margin.specs.code.Lent.{TabledBy}
 use Rattle.margin.proofs.QuestionLaws.{figures-length}
 use Rattle.margin.proofs.WalkedLaws.{walked_tabled, walked_everything}
-use borrow.Author.Rules.{rules}
 use Rattle.margin.proofs.everything.put_over.Goals as goal
 use Rattle.margin.proofs.everything.put_over.Goals.{After-record_total, Start}
 

@@ -20,7 +20,6 @@ use Rattle.margin.proofs.AccountLaws.{lined_tiers, run_book}
 use Rattle.margin.proofs.StandLaws.{entries_fit}
 use Rattle.margin.proofs.TabledLaws.{tabled_tiers, tabled_sound, tabled_formed, tabled_nets}
 use Prim.Native.Nat.{ℕ, ◌/◌}
-use borrow.Author.Rules.{rules}
 use Rattle.record.specs.Bytes.{record_bytes}
 use Rattle.account.specs.Records.{cut}
 use Rattle.formulas.specs.Bounds.{longest_uses}

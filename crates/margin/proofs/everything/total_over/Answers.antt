@@ -3,7 +3,6 @@
 use mathlib.Core.Path.{subst⁻¹}
 use Rattle.account.specs.code.Standing.{Stands}
 use Rattle.account.specs.declared.accounts.Account.{Account}
-use borrow.Author.Rules.{rules}
 use Rattle.margin.proofs.everything.total_over.Goals as goal
 
 pub total_lent-requires : goal.total_lent-requires

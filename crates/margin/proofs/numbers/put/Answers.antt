@@ -4,7 +4,6 @@ use mathlib.Core.Path.{◌∙◌, ap}
 use lib.IntN.{ℤ}
 use lib.ListN.{set}
 use Rattle.exact.proofs.Integers.{back}
-use borrow.Author.Rules.{rules}
 use Rattle.margin.proofs.numbers.put.Goals as goal
 
 pub returns : goal.returns

@@ -5,7 +5,6 @@ use native.Mathlib.Omega.{arith}
 use lib.IntN.{pos}
 use Rattle.formulas.specs.code.Lines.{eight_of}
 use Rattle.margin.proofs.NumberLaws.{stores_sets}
-use borrow.Author.Rules.{rules}
 use Rattle.margin.proofs.numbers.put_eight.Goals as goal
 
 pub put-requires-8 : goal.put-requires-8

@@ -2,7 +2,6 @@
 -- Assumes nothing.
 use lib.IntN.{pos}
 use Rattle.margin.proofs.NumberLaws.{threes_on, threes-length, twos_on, twos_length, book-listed}
-use borrow.Author.Rules.{rules}
 use Rattle.margin.proofs.numbers.put_numbers.Goals as goal
 
 pub returns : goal.returns

@@ -1,12 +1,12 @@
-use mathlib.Core.Path.{◌≡◌, refl, ◌∙◌}
+use mathlib.Core.Path.{refl, ◌∙◌}
 use mathlib.Core.List.{[], ◌∷◌}
-use Prim.Native.Nat.{◌+◌, ◌*◌, ◌-◌}
+use Prim.Native.Nat.{◌+◌, ◌*◌}
 use native.Mathlib.Omega.{arith}
 use lib.IntN.{pos}
-use lib.ListN.{length, get_or}
+use lib.ListN.{get_or}
 use lib.Seq.{sets}
 use Rattle.exact.proofs.Integers.{back}
-use Rattle.margin.proofs.NumberLaws.{ToWrite, start, next, finish, threes_on, threes_step, threes-none}
+use Rattle.margin.proofs.NumberLaws.{start, next, finish, threes_step, threes-none}
 use Rattle.margin.proofs.numbers.put_prompts.Goals as goal
 
 pub loop-i-init : goal.loop-i-init

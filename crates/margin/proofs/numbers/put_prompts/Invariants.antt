@@ -1,14 +1,10 @@
 -- Three numbers a prompt, one prompt after the other.
 -- Assumes nothing.
-use mathlib.Core.Path.{◌≡◌, refl, ◌∙◌}
-use mathlib.Core.List.{[], ◌∷◌}
-use Prim.Native.Nat.{◌+◌, ◌*◌, ◌-◌}
-use native.Mathlib.Omega.{arith}
-use lib.IntN.{pos}
-use lib.ListN.{length, get_or}
+use mathlib.Core.Path.{◌≡◌}
+use Prim.Native.Nat.{◌*◌, ◌-◌}
+use lib.ListN.{length}
 use lib.Seq.{sets}
-use Rattle.exact.proofs.Integers.{back}
-use Rattle.margin.proofs.NumberLaws.{ToWrite, start, next, finish, threes_on, threes_step, threes-none}
+use Rattle.margin.proofs.NumberLaws.{ToWrite, threes_on}
 use Rattle.margin.proofs.numbers.put_prompts.Given as goal
 
 abbrev pub invariant-loop-i : goal.invariant-loop-i

@@ -1,11 +1,10 @@
-use mathlib.Core.Path.{◌≡◌, refl, ◌∙◌}
+use mathlib.Core.Path.{refl, ◌∙◌}
 use mathlib.Core.List.{[], ◌∷◌}
-use Prim.Native.Nat.{◌+◌, ◌*◌, ◌-◌}
+use Prim.Native.Nat.{◌+◌, ◌*◌}
 use native.Mathlib.Omega.{arith}
 use lib.IntN.{pos}
-use lib.ListN.{length, get_or}
-use lib.Seq.{sets}
-use Rattle.margin.proofs.NumberLaws.{ToWrite, start, next, finish, twos_on, twos_step, twos_none}
+use lib.ListN.{get_or}
+use Rattle.margin.proofs.NumberLaws.{start, next, finish, twos_step, twos_none}
 use Rattle.margin.proofs.numbers.put_spreads.Goals as goal
 
 pub loop-i-init : goal.loop-i-init

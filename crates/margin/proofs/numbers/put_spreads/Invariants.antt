@@ -1,13 +1,10 @@
 -- Two numbers a spread, one spread after the other.
 -- Assumes nothing.
-use mathlib.Core.Path.{◌≡◌, refl, ◌∙◌}
-use mathlib.Core.List.{[], ◌∷◌}
+use mathlib.Core.Path.{◌≡◌}
 use Prim.Native.Nat.{◌+◌, ◌*◌, ◌-◌}
-use native.Mathlib.Omega.{arith}
-use lib.IntN.{pos}
-use lib.ListN.{length, get_or}
+use lib.ListN.{length}
 use lib.Seq.{sets}
-use Rattle.margin.proofs.NumberLaws.{ToWrite, start, next, finish, twos_on, twos_step, twos_none}
+use Rattle.margin.proofs.NumberLaws.{ToWrite, twos_on}
 use Rattle.margin.proofs.numbers.put_spreads.Given as goal
 
 abbrev pub invariant-loop-i : goal.invariant-loop-i

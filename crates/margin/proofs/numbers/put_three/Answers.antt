@@ -2,7 +2,6 @@
 -- Assumes nothing.
 use mathlib.Core.List.{[], ◌∷◌}
 use Rattle.margin.proofs.NumberLaws.{stores_sets}
-use borrow.Author.Rules.{rules}
 use Rattle.margin.proofs.numbers.put_three.Goals as goal
 
 pub returns : goal.returns

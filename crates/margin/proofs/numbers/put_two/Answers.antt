@@ -3,7 +3,6 @@
 use mathlib.Core.List.{[], ◌∷◌}
 use lib.IntN.{pos}
 use Rattle.margin.proofs.NumberLaws.{stores_sets}
-use borrow.Author.Rules.{rules}
 use Rattle.margin.proofs.numbers.put_two.Goals as goal
 
 pub returns : goal.returns

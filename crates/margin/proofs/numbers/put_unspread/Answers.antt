@@ -1,12 +1,12 @@
-use mathlib.Core.Path.{◌≡◌, refl, ◌∙◌}
+use mathlib.Core.Path.{refl, ◌∙◌}
 use mathlib.Core.List.{[], ◌∷◌}
-use Prim.Native.Nat.{◌+◌, ◌*◌, ◌-◌}
+use Prim.Native.Nat.{◌+◌, ◌*◌}
 use native.Mathlib.Omega.{arith}
 use lib.IntN.{pos}
-use lib.ListN.{length, get_or}
+use lib.ListN.{get_or}
 use lib.Seq.{sets}
 use Rattle.exact.proofs.Integers.{back}
-use Rattle.margin.proofs.NumberLaws.{ToWrite, start, next, finish, rest_on, rest_step, rest_none, rest_listed}
+use Rattle.margin.proofs.NumberLaws.{start, next, finish, rest_step, rest_none, rest_listed}
 use Rattle.margin.proofs.numbers.put_unspread.Goals as goal
 
 pub loop-i-init : goal.loop-i-init

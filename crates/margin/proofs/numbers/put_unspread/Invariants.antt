@@ -1,14 +1,10 @@
 -- Of each prompt three numbers, and 0 after them.
 -- Assumes nothing.
-use mathlib.Core.Path.{◌≡◌, refl, ◌∙◌}
-use mathlib.Core.List.{[], ◌∷◌}
-use Prim.Native.Nat.{◌+◌, ◌*◌, ◌-◌}
-use native.Mathlib.Omega.{arith}
-use lib.IntN.{pos}
-use lib.ListN.{length, get_or}
+use mathlib.Core.Path.{◌≡◌}
+use Prim.Native.Nat.{◌*◌, ◌-◌}
+use lib.ListN.{length}
 use lib.Seq.{sets}
-use Rattle.exact.proofs.Integers.{back}
-use Rattle.margin.proofs.NumberLaws.{ToWrite, start, next, finish, rest_on, rest_step, rest_none, rest_listed}
+use Rattle.margin.proofs.NumberLaws.{ToWrite, rest_on}
 use Rattle.margin.proofs.numbers.put_unspread.Given as goal
 
 abbrev pub invariant-loop-i : goal.invariant-loop-i

@@ -1,7 +1,6 @@
 -- The net deltas of a contract, by its number: its prompts and rows are the account's.
 -- Assumes nothing.
 use mathlib.Core.List.{[]}
-use borrow.Author.Rules.{rules}
 use Rattle.account.specs.code.Lent.{account_in}
 use Rattle.account.specs.Joined.{account_of}
 use Rattle.margin.proofs.StandLaws.{rows_room, prompts_few, rows_placed, nets_here}

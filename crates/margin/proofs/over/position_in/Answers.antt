@@ -1,6 +1,5 @@
 -- What a contract's rows come to in its unit, which its own record has.
 -- Assumes nothing.
-use borrow.Author.Rules.{rules}
 use Rattle.account.specs.Parts.{rates_of}
 use Rattle.account.specs.code.Lent.{account_in}
 use Rattle.account.specs.Joined.{account_of}

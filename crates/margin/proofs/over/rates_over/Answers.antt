@@ -2,7 +2,6 @@
 -- Assumes nothing.
 use mathlib.Core.Path.{subst}
 use mathlib.Core.List.{List}
-use borrow.Author.Rules.{rules}
 use Rattle.record.specs.Layout.{Record}
 use Rattle.account.specs.code.Rates.{RatesOf}
 use Rattle.margin.proofs.over.rates_over.Goals as goal

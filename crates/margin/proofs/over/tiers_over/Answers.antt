@@ -1,12 +1,11 @@
 use mathlib.Core.Path.{refl}
-use Prim.Native.Nat.{◌-◌, ◌≤◌}
+use Prim.Native.Nat.{◌≤◌}
 use native.Mathlib.Omega.{arith}
-use borrow.Author.Rules.{rules}
 use Rattle.account.specs.code.Lent.{account_in}
 use Rattle.account.specs.Joined.{account_of}
 use Rattle.account.specs.Check.{most_contracts}
 use Rattle.margin.proofs.StandLaws.{few_contracts}
-use Rattle.margin.proofs.TierLaws.{TieredTo, tiers_none, tiers_next, tiers_all}
+use Rattle.margin.proofs.TierLaws.{tiers_none, tiers_next, tiers_all}
 use Rattle.margin.proofs.over.tiers_over.Goals as goal
 use Rattle.margin.proofs.over.tiers_over.Goals.{After-contract_total-count}
 

@@ -1,15 +1,14 @@
 use mathlib.Core.Path.{◌≡◌, ◌∙◌}
 use mathlib.Core.List.{[]}
 use lib.ListN.{get_or}
-use Prim.Native.Nat.{◌-◌, ◌≤◌, ◌<◌}
+use Prim.Native.Nat.{◌≤◌, ◌<◌}
 use native.Mathlib.Omega.{arith}
-use borrow.Author.Rules.{rules}
 use Rattle.record.specs.Layout.{contract, most_contract}
 use Rattle.account.specs.Parts.{contracts_of}
 use Rattle.account.specs.code.Lent.{account_in}
 use Rattle.account.specs.Joined.{account_of}
 use Rattle.account.specs.Check.{most_contracts}
-use Rattle.margin.proofs.PositionsLaws.{Placed, placed_none, placed_next, placed_all}
+use Rattle.margin.proofs.PositionsLaws.{placed_none, placed_next, placed_all}
 use Rattle.margin.proofs.StandLaws.{few_contracts, number_at, listed_at, own_number}
 use Rattle.margin.proofs.positions.positions_lent.Goals as goal
 use Rattle.margin.proofs.positions.positions_lent.Goals.{After-contract_number-c, After-contract_total-count}

@@ -3,7 +3,6 @@
 use mathlib.Core.Path.{subst⁻¹}
 use Rattle.account.specs.code.Standing.{Stands}
 use Rattle.account.specs.declared.accounts.Account.{Account}
-use borrow.Author.Rules.{rules}
 use Rattle.margin.proofs.positions.positions_over.Goals as goal
 
 pub positions_lent-requires : goal.positions_lent-requires

@@ -4,7 +4,6 @@ use Prim.Native.Nat.{◌+◌}
 use lib.IntN.{pos, nat_abs}
 use lib.ListN.{get_or}
 use Rattle.exact.proofs.Integers.{seen}
-use borrow.Author.Rules.{rules}
 use Rattle.margin.proofs.tabled.line_from.Goals as goal
 
 pub returns : goal.returns

@@ -6,7 +6,6 @@ use lib.ListN.{set}
 use mir.Syntax.{w64}
 use mir.Val.{SFits}
 use Rattle.exact.proofs.Integers.{back, seen}
-use borrow.Author.Rules.{rules}
 use Rattle.margin.proofs.tabled.place_line.Goals as goal
 
 pub returns : goal.returns

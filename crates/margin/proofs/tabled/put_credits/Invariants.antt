@@ -1,23 +1,16 @@
 -- A line after the other is read, and put again with its credit; and the total after them.
 -- Assumes nothing.
-use mathlib.Core.Path.{◌≡◌, refl, ◌∙◌, sym, ap, ap₂, subst, subst⁻¹}
-use mathlib.Core.List.{List, map}
-use Prim.Native.Nat.{ℕ, ◌+◌, ◌*◌, ◌-◌, ◌≤◌}
-use native.Mathlib.Omega.{arith}
+use mathlib.Core.Path.{◌≡◌}
+use mathlib.Core.List.{List}
+use Prim.Native.Nat.{ℕ, ◌*◌, ◌-◌, ◌≤◌}
 use lib.IntN.{ℤ, pos}
 use lib.ListN.{length, get_or}
 use lib.Seq.{sets}
-use Rattle.account.specs.Check.{most_contracts}
-use Rattle.spread.proofs.Filling.{entries_length}
 use Rattle.formulas.specs.declared.amount.Amount.{Amount}
-use Rattle.formulas.specs.declared.line.Line.{Line}
-use Rattle.formulas.specs.Bounds.{most_risk, most_credits, figures_each}
-use Rattle.formulas.specs.code.Lines.{LineWithin, eight_of, margin_with, no_line}
+use Rattle.formulas.specs.Bounds.{most_risk, figures_each}
 use Rattle.formulas.proofs.SumLaws as sums
-use Rattle.margin.specs.code.Numbers.{amount_at}
-use Rattle.margin.specs.code.Tabled.{line_at, lines_at, credits_at}
-use Rattle.margin.proofs.NumberLaws.{ToWrite, start, next, finish, eights_on, eights_step, eights-none, total_on, total_step, total-none, figures-listed}
-use Rattle.margin.proofs.TabledLaws.{get_d_sets_past, read_here}
+use Rattle.margin.specs.code.Tabled.{lines_at, credits_at}
+use Rattle.margin.proofs.NumberLaws.{ToWrite, eights_on, total_on}
 use Rattle.margin.proofs.tabled.put_credits.Given as goal
 
 -- the lines that stood when the walk began, and their credits

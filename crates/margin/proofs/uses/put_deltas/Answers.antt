@@ -1,18 +1,18 @@
 use mathlib.Core.Path.{◌≡◌, refl, ◌∙◌, sym, ap, ap₂}
 use mathlib.Core.List.{[], ◌∷◌}
-use Prim.Native.Nat.{ℕ, ◌+◌, ◌-◌}
+use Prim.Native.Nat.{ℕ, ◌+◌}
 use native.Mathlib.Nat.{add-zero}
 use native.Mathlib.Omega.{arith}
 use native.Mathlib.Numerals.{add-one}
 use borrow.Author.Rules.{rules}
 use lib.IntN.{ℤ, pos}
-use lib.ListN.{length, length-map, take, set, length-set}
-use lib.Seq.{sets, slice, slice-cons, slice_empty}
+use lib.ListN.{length, length-map, set, length-set}
+use lib.Seq.{slice, slice-cons, slice_empty}
 use Rattle.spread.specs.Accepted.{prompt_places}
 use Rattle.exact.proofs.Integers.{back}
 use Rattle.formulas.specs.code.Sums.{delta_in, deltas_in}
 use Rattle.spread.proofs.Lent.{delta_at_lem}
-use Rattle.margin.proofs.NumberLaws.{ToWrite, start, next, finish}
+use Rattle.margin.proofs.NumberLaws.{start, next, finish}
 use Rattle.margin.proofs.uses.put_deltas.Goals as goal
 
 pub loop-i-init : goal.loop-i-init

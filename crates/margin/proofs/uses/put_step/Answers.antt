@@ -1,8 +1,8 @@
 -- What a step takes is written, and what it leaves is handed back.
 -- Assumes nothing.
-use mathlib.Core.Path.{◌≡◌, sym, ap, ◌∙◌}
+use mathlib.Core.Path.{◌≡◌, ap, ◌∙◌}
 use borrow.Author.Rules.{rules}
-use lib.ListN.{length, length-map}
+use lib.ListN.{length}
 use lib.Seq.{sets}
 use Rattle.spread.specs.Accepted.{sound_prompts, sound_spread, prompt_places}
 use Rattle.spread.proofs.Both.{and_left}

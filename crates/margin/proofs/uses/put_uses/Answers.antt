@@ -1,17 +1,14 @@
-use mathlib.Core.Path.{◌≡◌, refl, sym, ◌∙◌}
+use mathlib.Core.Path.{◌≡◌, refl, ◌∙◌}
 use mathlib.Core.Bool.{true, false}
 use mathlib.Core.List.{[]}
-use Prim.Native.Nat.{◌-◌}
 use native.Mathlib.Omega.{arith}
 use borrow.Author.Rules.{rules}
-use lib.ListN.{length, length-map}
-use lib.Seq.{sets}
-use Rattle.spread.specs.Accepted.{open_of, steps_of, sound_prompts, sound_table, prompt_places, spread_places}
-use Rattle.spread.specs.Uses.{uses_of}
+use lib.ListN.{length}
+use Rattle.spread.specs.Accepted.{sound_prompts, sound_table, prompt_places, spread_places}
 use Rattle.spread.specs.declared.Spread.{Spread}
 use Rattle.spread.proofs.Both.{and_right}
 use Rattle.spread.proofs.Gathering.{few_in_table}
-use Rattle.margin.proofs.UsesLaws.{Putting, put-none, room_here, first_room, first_sound, second_room, second_sound, put_next, put-length, put_all}
+use Rattle.margin.proofs.UsesLaws.{put-none, room_here, first_room, first_sound, second_room, second_sound, put_next, put-length, put_all}
 use Rattle.margin.proofs.uses.put_uses.Goals as goal
 use Rattle.margin.proofs.uses.put_uses.Goals.{Start}
 

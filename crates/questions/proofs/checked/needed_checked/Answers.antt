@@ -4,7 +4,6 @@ use mathlib.Core.Path.{◌≡◌, sym, ◌∙◌}
 use native.Mathlib.Omega.{arith}
 use Rattle.account.specs.Answers.{number_of}
 use Rattle.questions.proofs.CheckedLaws.{file_stands, none_needed, needed_accepted}
-use borrow.Author.Rules.{rules}
 use Rattle.questions.proofs.checked.needed_checked.Goals as goal
 use Rattle.questions.proofs.checked.needed_checked.Goals.{Else-number_of-ne0}
 

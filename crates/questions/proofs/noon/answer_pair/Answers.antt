@@ -4,7 +4,6 @@ use mathlib.Core.Path.{◌≡◌, sym, ◌∙◌}
 use native.Mathlib.Omega.{arith}
 use Rattle.account.specs.Answers.{number_of}
 use Rattle.questions.proofs.NoonLaws.{pair_stands, answer_refused, answer_accepted}
-use borrow.Author.Rules.{rules}
 use Rattle.questions.proofs.noon.answer_pair.Goals as goal
 use Rattle.questions.proofs.noon.answer_pair.Goals.{Else-number_of-ne0}
 

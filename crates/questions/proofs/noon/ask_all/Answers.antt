@@ -3,7 +3,6 @@
 use mathlib.Core.Path.{◌≡◌, sym, ◌∙◌}
 use mathlib.Core.Bool.{true, false}
 use native.Mathlib.Omega.{arith}
-use borrow.Author.Rules.{rules}
 use Rattle.account.specs.Answers.{number_of}
 use Rattle.margin.specs.declared.asking.Question.TheVariants.{Figures}
 use Rattle.questions.proofs.NoonLaws.{pair_stands, answer_refused, answer_accepted, all_refused, all_accepted}

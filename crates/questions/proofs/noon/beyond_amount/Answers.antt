@@ -6,7 +6,6 @@ use lib.IntN.{pos}
 use lib.Signed.{lt_z}
 use Rattle.exact.proofs.Integers.{seen}
 use Rattle.questions.specs.Noon.{most_amount}
-use borrow.Author.Rules.{rules}
 use Rattle.questions.proofs.noon.beyond_amount.Goals as goal
 
 pub returns : goal.returns

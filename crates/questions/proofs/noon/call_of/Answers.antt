@@ -3,7 +3,6 @@
 use mathlib.Core.Path.{sym}
 use native.Mathlib.Omega.{arith}
 use Rattle.questions.proofs.NoonLaws.{no_call, covered, called}
-use borrow.Author.Rules.{rules}
 use Rattle.questions.proofs.noon.call_of.Goals as goal
 
 pub returns-then-required-last : goal.returns-then-required-last

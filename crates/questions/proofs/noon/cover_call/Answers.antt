@@ -11,7 +11,6 @@ use Rattle.account.specs.Answers.{number_of}
 use Rattle.account.specs.Joined.{account_of}
 use Rattle.questions.specs.Noon.{beyond_amount, requirement, cover_call}
 use Rattle.questions.proofs.NoonLaws.{pair_stands, amount_within, call_refused, call_outside, call_made}
-use borrow.Author.Rules.{rules}
 use Rattle.questions.proofs.noon.cover_call.Goals as goal
 use Rattle.questions.proofs.noon.cover_call.Goals.{After-beyond_amount-3, Else-beyond_amount, Else-number_of-ne0}
 

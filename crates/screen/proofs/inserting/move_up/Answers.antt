@@ -4,7 +4,7 @@ use native.Mathlib.Omega.{arith}
 use borrow.Author.Rules.{rules}
 use lib.ListN.{length}
 use Rattle.record.specs.Layout.{record_bytes}
-use Rattle.screen.proofs.InsertingLaws.{Lifted, none_yet, as_long, one_more_lem, lifted, all_moved}
+use Rattle.screen.proofs.InsertingLaws.{none_yet, as_long, one_more_lem, lifted, all_moved}
 use Rattle.screen.proofs.inserting.move_up.Goals as goal
 use Rattle.screen.proofs.inserting.move_up.Goals.{After-slice_known-1}
 

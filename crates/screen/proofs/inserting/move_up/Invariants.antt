@@ -1,12 +1,7 @@
 -- The bytes are moved up one after the other, the last first.
 -- Assumes nothing.
-use mathlib.Core.Path.{◌≡◌, ap, ◌∙◌}
-use Prim.Native.Nat.{ℕ, ◌+◌, ◌-◌, ◌≤◌}
-use native.Mathlib.Omega.{arith}
-use borrow.Author.Rules.{rules}
-use lib.ListN.{length}
-use Rattle.record.specs.Layout.{record_bytes}
-use Rattle.screen.proofs.InsertingLaws.{Lifted, none_yet, as_long, one_more_lem, lifted, all_moved}
+use Prim.Native.Nat.{◌≤◌}
+use Rattle.screen.proofs.InsertingLaws.{Lifted}
 use Rattle.screen.proofs.inserting.move_up.Given as goal
 
 abbrev pub invariant-loop-i : goal.invariant-loop-i

@@ -1,6 +1,5 @@
 -- The file is checked first.
 -- Assumes nothing.
-use borrow.Author.Rules.{rules}
 use mathlib.Core.Path.{sym, ◌∙◌}
 use Rattle.account.proofs.AcceptedOnly.{accepted_only}
 use Rattle.tickets.specs.Asked.{tickets_in}

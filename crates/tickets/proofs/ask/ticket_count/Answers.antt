@@ -1,6 +1,5 @@
 -- Whole tickets, and one more where bytes are left.
 -- Assumes nothing.
-use borrow.Author.Rules.{rules}
 use Rattle.tickets.proofs.AskLaws.{whole-count, part_count}
 use Rattle.tickets.proofs.ask.ticket_count.Goals as goal
 

@@ -3,8 +3,6 @@
 use mathlib.Core.Path.{sym}
 use lib.ListN.{get_or-eq_default}
 use borrow.Author.Rules.{rules}
-use Rattle.tickets.proofs.counts.number_at.Reads as reads
-use Rattle.tickets.proofs.counts.number_at.Lts as lts
 use Rattle.tickets.proofs.counts.number_at.Goals as goal
 
 -- src/counts.rt:78:28

@@ -2,8 +2,6 @@
 -- Assumes nothing.
 use native.Mathlib.Omega.{arith}
 use borrow.Author.Rules.{rules}
-use Rattle.tickets.proofs.counts.one_more.Reads as reads
-use Rattle.tickets.proofs.counts.one_more.Lts as lts
 use Rattle.tickets.proofs.counts.one_more.Goals as goal
 
 -- src/counts.rt:192:15

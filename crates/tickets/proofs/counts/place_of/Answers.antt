@@ -1,6 +1,5 @@
 -- The records of kinds 1 and 2, and the rows up to the contract.
 -- Assumes nothing.
-use borrow.Author.Rules.{rules}
 use Prim.Native.Nat.{◌+◌}
 use native.Mathlib.Omega.{arith}
 use Rattle.account.specs.Check.{most_records}

@@ -1,6 +1,5 @@
 -- Four tests in turn; where 6 is not given the contract is one of the sixteen.
 -- Assumes nothing.
-use borrow.Author.Rules.{rules}
 use mathlib.Core.Path.{sym, ◌∙◌}
 use mathlib.Core.Bool.{◌||◌}
 use lib.Dec.{leb}

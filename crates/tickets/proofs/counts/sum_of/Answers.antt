@@ -1,10 +1,8 @@
-use borrow.Author.Rules.{rules}
 use mathlib.Core.Path.{◌≡◌, refl, sym, ap, ◌∙◌}
-use Prim.Native.Nat.{ℕ, ◌-◌, ◌*◌, ◌≤◌}
+use Prim.Native.Nat.{ℕ}
 use native.Mathlib.Omega.{arith}
 use native.Mathlib.Numerals.{add-one}
 use lib.ListN.{take}
-use Rattle.account.specs.Check.{most_records}
 use Rattle.exact.specs.Lists.{sum}
 use Rattle.tickets.proofs.Counting.{next_sum}
 use Rattle.tickets.proofs.counts.sum_of.Goals as goal

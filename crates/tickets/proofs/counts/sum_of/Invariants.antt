@@ -1,14 +1,10 @@
 -- The numbers are added one after the other.
 -- Assumes nothing.
-use borrow.Author.Rules.{rules}
-use mathlib.Core.Path.{◌≡◌, refl, sym, ap, ◌∙◌}
-use Prim.Native.Nat.{ℕ, ◌-◌, ◌*◌, ◌≤◌}
-use native.Mathlib.Omega.{arith}
-use native.Mathlib.Numerals.{add-one}
+use mathlib.Core.Path.{◌≡◌}
+use Prim.Native.Nat.{◌-◌, ◌*◌, ◌≤◌}
 use lib.ListN.{take}
 use Rattle.account.specs.Check.{most_records}
 use Rattle.exact.specs.Lists.{sum}
-use Rattle.tickets.proofs.Counting.{next_sum}
 use Rattle.tickets.proofs.counts.sum_of.Given as goal
 
 abbrev pub invariant-loop-i : goal.invariant-loop-i

@@ -1,12 +1,8 @@
 -- The parts are gone through one after the other.
 -- Assumes nothing.
-use borrow.Author.Rules.{rules}
-use mathlib.Core.Path.{◌≡◌, refl, ◌∙◌}
+use mathlib.Core.Path.{◌≡◌}
 use Prim.Native.Nat.{ℕ, ◌+◌, ◌-◌, ◌≤◌, ◌<◌}
-use native.Mathlib.Nat.{not-suc-le-zero}
-use native.Mathlib.Omega.{arith}
-use lib.ListN.{length, get_or, length-set}
-use Rattle.account.proofs.Filled.{filled_next}
+use lib.ListN.{length, get_or}
 use Rattle.account.specs.Check.{most_contracts}
 use Rattle.tickets.proofs.counts.totals_of.Given as goal
 

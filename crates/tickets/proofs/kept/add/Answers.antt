@@ -1,10 +1,8 @@
 -- A refusal keeps the account; else counts and positions have the row.
 -- Assumes nothing.
-use borrow.Author.Rules.{rules}
 use mathlib.Core.Path.{◌≡◌, refl, sym, ◌∙◌, subst}
 use Prim.Native.Nat.{ℕ}
 use native.Mathlib.Omega.{arith}
-use Rattle.record.specs.Layout.{contract}
 use Rattle.account.specs.Answers.{number_of}
 use Rattle.account.proofs.AcceptedOnly.{accepted_only}
 use Rattle.tickets.specs.code.Counts.{OneMore}

@@ -1,6 +1,5 @@
 -- The counts and the positions of the file.
 -- Assumes nothing.
-use borrow.Author.Rules.{rules}
 use mathlib.Core.Path.{subst}
 use mathlib.Core.List.{List}
 use Rattle.record.specs.Layout.{Record}

@@ -1,6 +1,5 @@
 -- Rows have no part in how many numbers an answer has.
 -- Assumes nothing.
-use borrow.Author.Rules.{rules}
 use mathlib.Core.Path.{sym, ◌∙◌, subst⁻¹}
 use Rattle.account.specs.Records.{records}
 use Rattle.account.specs.code.Standing.{Stands}

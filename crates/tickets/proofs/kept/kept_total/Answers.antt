@@ -1,6 +1,5 @@
 -- The total of the account that the positions tell of.
 -- Assumes nothing.
-use borrow.Author.Rules.{rules}
 use mathlib.Core.Path.{subst⁻¹}
 use Rattle.account.specs.Records.{records}
 use Rattle.account.specs.code.Standing.{Stands}

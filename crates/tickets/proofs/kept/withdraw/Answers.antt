@@ -1,12 +1,11 @@
 -- Without a ticket nothing changes; else counts and positions are without the latest row.
 -- Assumes nothing.
-use borrow.Author.Rules.{rules}
 use mathlib.Core.Path.{◌≡◌, refl, sym, ap, ◌∙◌, subst, subst⁻¹}
 use mathlib.Core.List.{List, [], ◌∷◌, ◌++◌}
 use Prim.Native.Nat.{ℕ, ◌-◌, ◌≤◌}
 use native.Mathlib.Omega.{arith}
 use lib.ListN.{get_or}
-use Rattle.record.specs.Layout.{Record, contract, most_contract}
+use Rattle.record.specs.Layout.{Record, most_contract}
 use Rattle.account.specs.Records.{record_at, cut}
 use Rattle.tickets.specs.code.Kept.{KeptBy, withdrawal}
 use Rattle.tickets.specs.code.Counts.{SmallCounts, OneLess}

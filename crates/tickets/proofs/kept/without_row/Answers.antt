@@ -1,12 +1,11 @@
 -- The row is taken from what the rows of its contract come to.
 -- Assumes nothing.
-use borrow.Author.Rules.{rules}
 use mathlib.Core.Path.{◌≡◌, subst, subst⁻¹}
 use mathlib.Core.List.{List, [], ◌∷◌, ◌++◌}
 use Prim.Native.Nat.{ℕ, ◌-◌, ◌≤◌}
 use native.Mathlib.Omega.{arith}
 use lib.ListN.{get_or, set}
-use Rattle.record.specs.Layout.{Record, contract, unit, most_unit}
+use Rattle.record.specs.Layout.{Record, most_unit}
 use Rattle.account.specs.code.Rates.{RatesOf}
 use Rattle.account.specs.Records.{records}
 use Rattle.account.specs.code.Standing.{Stands, PartOf}

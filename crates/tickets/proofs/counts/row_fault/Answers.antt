@@ -3,7 +3,6 @@
 use mathlib.Core.Path.{sym, ◌∙◌}
 use mathlib.Core.Bool.{◌||◌}
 use lib.Dec.{leb}
-use borrow.Author.Tests.{le-leb, lt-leb}
 use Rattle.record.specs.Layout.{contract, day}
 use Rattle.record.specs.Ranges.{unused_byte, field_outside}
 use Rattle.record.proofs.Within.{contract_known}
@@ -12,7 +11,7 @@ use Rattle.account.specs.Parts.{prompts_of}
 use Rattle.account.specs.Joined.{account_of}
 use Rattle.account.specs.Check.{most_rows}
 use Rattle.tickets.proofs.Inserted.{row_known}
-use Rattle.tickets.proofs.Counting.{four_5, four_6, four_7, four_9, four_0}
+use Rattle.tickets.proofs.Counting.{four_5, four_6, four_7}
 use Rattle.tickets.proofs.counts.row_fault.Goals as goal
 
 pub returns-then-unused_byte : goal.returns-then-unused_byte
@@ -45,25 +44,3 @@ returns-then-missing c =
     four_7 (unused_byte r) (field_outside r) m (leb most_rows args.rows)
     (sym c.unused_byte.ensures ∙ c.if-unused_byte.false)
     (sym c.field_outside.ensures ∙ c.if-field_outside.false) (sym c.missing.ensures ∙ c.if-missing.true)
-
-pub returns-then-rows-ge-MOST_ROWS : goal.returns-then-rows-ge-MOST_ROWS
-returns-then-rows-ge-MOST_ROWS c =
-    let args = c.args in
-    let r = args.row.now in
-    let m = no_contract args.account.counts (contract r) || no_day (prompts_of (contract r) (account_of args.file.now args.none.now)) (day r) in
-    four_9 (unused_byte r) (field_outside r) m (leb most_rows args.rows)
-    (sym c.unused_byte.ensures ∙ c.if-unused_byte.false)
-    (sym c.field_outside.ensures ∙ c.if-field_outside.false)
-    (sym c.missing.ensures ∙ c.if-missing.false)
-    (le-leb most_rows args.rows c.if-rows-ge-MOST_ROWS.true)
-
-pub returns : goal.returns
-returns c =
-    let args = c.args in
-    let r = args.row.now in
-    let m = no_contract args.account.counts (contract r) || no_day (prompts_of (contract r) (account_of args.file.now args.none.now)) (day r) in
-    four_0 (unused_byte r) (field_outside r) m (leb most_rows args.rows)
-    (sym c.unused_byte.ensures ∙ c.if-unused_byte.false)
-    (sym c.field_outside.ensures ∙ c.if-field_outside.false)
-    (sym c.missing.ensures ∙ c.if-missing.false)
-    (lt-leb most_rows args.rows c.if-rows-ge-MOST_ROWS.false)

@@ -13,6 +13,7 @@ use margin::lists::{Judged, judge_over};
 // What is said of a list of spreads that is sent for a question, 0 to 15 for that contract or 16 for the intercontract table. The
 // list has a number for each step, of each spread its first step and then its second, in `numbers`; what each step used of each
 // prompt, or of each contract, one step after the other, in `uses`; and it speaks of `sent` prompts. Nothing is written.
+#[tactic(auto, using(crate::proofs::ListLaws::list_refused))]
 pub fn judge(file: &[u8], question: usize, sent: usize, numbers: &[i64], uses: &[i64]) -> Judged
     ensures { result ≡ judged_to file.now question sent numbers.now uses.now }
 {

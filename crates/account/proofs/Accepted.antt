@@ -1,5 +1,6 @@
 -- What is known of an accepted file.
 -- Assumes nothing.
+use Rattle.std.specs.Prelude.{Ok}
 use Prim.Native.Nat.{ℕ, zero, suc, ◌≤◌, ◌<◌}
 use mathlib.Core.Path.{◌≡◌, refl, sym, ap, subst, ◌∙◌}
 use mathlib.Core.Bool.{Bool, true, not}
@@ -19,7 +20,6 @@ use Rattle.account.specs.PartNumbers.{part, in_part, contract_count, part_count,
 use Rattle.account.specs.Orders.{RatesRise}
 use Rattle.account.specs.Parts.{of_kind, of_contract, on_day, start_of, prompts_of, rates_of}
 use Rattle.account.specs.Records.{cut, record_at, records, record_count, stretch, earlier}
-use Rattle.account.specs.declared.answers.Answer.TheVariants.{Accepted}
 use Rattle.account.proofs.Days.{days}
 use Rattle.account.proofs.Dispatch.{unlisted_3, over_2, over_3, over_4, over_5}
 use Rattle.account.proofs.Earlier.{any_earlier, stretch-cut}
@@ -60,7 +60,7 @@ part_few file k fine n c most law =
     (sym (law (earlier file j) r i.0) ∙ (passed_at file k fine j h).room) in
     subst (λ (d : ℕ). count (of_contract n d) (earlier file j) < most) i.1 room)
 
-module _ (file : List ℕ) (ok : records_checked file ≡ Accepted) where
+module _ (file : List ℕ) (ok : records_checked file ≡ Ok tt) where
   fine : Faultless file (record_count file)
   fine =
       let g = (exactly file).accepted.forth (record { number = ap number_of ok; place = ap record_of ok }) in

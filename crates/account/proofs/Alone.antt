@@ -1,5 +1,6 @@
 -- An account that stands in one file, joined with an empty noon file, of which the check hands out nothing.
 -- Assumes nothing.
+use Rattle.std.specs.Prelude.{Ok}
 use Prim.Native.Nat.{ℕ, ◌%◌, ◌≤◌, ◌<◌}
 use native.Mathlib.Omega.{arith}
 use mathlib.Core.Path.{◌≡◌, refl, sym, ap, ◌∙◌, subst, subst⁻¹}
@@ -14,14 +15,13 @@ use Rattle.account.specs.Check.{records_checked, most_contracts}
 use Rattle.account.specs.Checked.{rates_checked, checked}
 use Rattle.account.specs.Conversions.{other_row}
 use Rattle.account.specs.Lawful.{Recorded, Lawful}
-use Rattle.account.specs.declared.answers.Answer.{Answer}
+use Rattle.account.specs.Answers.{Answer}
 use Rattle.account.specs.PartNumbers.{parts, entry_part, part}
 use Rattle.account.specs.Parts.{rates_of}
 use Rattle.account.specs.Records.{records, record_count}
 use Rattle.account.specs.code.Standing.{lists, listed_in, from_noon, either_note, Filled, Flagged, JoinedBy, AloneBy, Places, Stands, CheckedBy}
 use Rattle.account.specs.Joined.{account_of}
 use Rattle.account.specs.code.Surveyed.{Surveyed, Empty, Tallied}
-use Rattle.account.specs.declared.answers.Answer.TheVariants.{Accepted}
 use Rattle.account.specs.declared.check.Survey.{Survey}
 use Rattle.account.specs.declared.accounts.Account.{Account}
 use Rattle.account.proofs.Going as Going
@@ -36,7 +36,7 @@ abbrev zeros : List ℕ
 zeros = replicate parts 0
 
 nothing : Survey
-nothing = record { answer = Accepted; contracts = 0; first = zeros; counts = zeros; converts = false }
+nothing = record { answer = Ok tt; contracts = 0; first = zeros; counts = zeros; converts = false }
 
 nothing_surveyed : Surveyed [] nothing
 unfolding nothing
@@ -83,7 +83,7 @@ module _ (file : List ℕ) (s : Survey) (k : ℕ) (j : Account) (sv : Surveyed f
         records = refl;
       }
 
-  module _ (ok : records_checked file ≡ Accepted) (e : k ≡ record_count file) where
+  module _ (ok : records_checked file ≡ Ok tt) (e : k ≡ record_count file) where
     all_added : j.records ≡ sum j.counts
     unfolding added
     all_added =
@@ -103,7 +103,7 @@ module _ (file : List ℕ) (s : Survey) (k : ℕ) (j : Account) (sv : Surveyed f
         (places file [] s nothing j sv nothing_surveyed ok refl joined_by (alone_recorded file [] refl ok))
 
 -- a file whose records are accepted: the rates decide
-pub records_decide : (file : List ℕ) → records_checked file ≡ Accepted → checked file ≡ rates_checked (records file)
+pub records_decide : (file : List ℕ) → records_checked file ≡ Ok tt → checked file ≡ rates_checked (records file)
 records_decide file ok = ap (λ (a : Answer). cond (eqb (number_of a) 0) (rates_checked (records file)) a) ok
 
 pub records_refused : (file : List ℕ) → (number_of (records_checked file) ≡ 0 → ⊥) → checked file ≡ records_checked file
@@ -122,10 +122,10 @@ module _ (file : List ℕ) (a : Answer) (e : a ≡ records_checked file) where
 
 -- what an accepted file passed
 pub record Passes (file : List ℕ) : Type 0 where
-  pub recorded : records_checked file ≡ Accepted
-  pub rated : rates_checked (records file) ≡ Accepted
+  pub recorded : records_checked file ≡ Ok tt
+  pub rated : rates_checked (records file) ≡ Ok tt
 
-pub passes : (file : List ℕ) → checked file ≡ Accepted → Passes file
+pub passes : (file : List ℕ) → checked file ≡ Ok tt → Passes file
 passes file ok = go (eqb (number_of (records_checked file)) 0) refl
   where
     go : (t : Bool) → eqb (number_of (records_checked file)) 0 ≡ t → Passes file
@@ -136,12 +136,12 @@ passes file ok = go (eqb (number_of (records_checked file)) 0) refl
         let d = eqb-false (number_of (records_checked file)) 0 e in
         absurd (d (ap number_of (sym (records_refused file d) ∙ ok)))
 
-pub lawful : (file : List ℕ) → checked file ≡ Accepted → Lawful (records file)
+pub lawful : (file : List ℕ) → checked file ≡ Ok tt → Lawful (records file)
 lawful file ok = let p = passes file ok in lawful_of (records file) (recorded file p.recorded) p.rated
 
 -- what the check of a file hands out
 module _ (file : List ℕ) (s : Survey) (j : Account) (sv : Surveyed file s) (by : AloneBy s.first s.counts (record_count file) j) where
-  alone_stands : checked file ≡ Accepted → (none : List ℕ) → none ≡ [] → Stands file none j
+  alone_stands : checked file ≡ Ok tt → (none : List ℕ) → none ≡ [] → Stands file none j
   alone_stands ok none z =
       let p = passes file ok in
       record {
@@ -169,24 +169,24 @@ checked_refused file a n j e d m by =
 -- the records are accepted: the rates are looked at, by what is noted
 pub tallied_accepted :
     {file first counts : List ℕ} {a : Answer} {contracts : ℕ} {converts : Bool} → Tallied file a contracts converts first counts
-    → number_of a ≡ 0 → Tallied file Accepted contracts converts first counts
+    → number_of a ≡ 0 → Tallied file (Ok tt) contracts converts first counts
 tallied_accepted {file} {first} {counts} {a} t z = tallied_as (sym (accepted_only a z)) t
 
-module _ (file : List ℕ) (contracts : ℕ) {converts : Bool} (first counts : List ℕ) (t : Tallied file Accepted contracts converts first counts) where
+module _ (file : List ℕ) (contracts : ℕ) {converts : Bool} (first counts : List ℕ) (t : Tallied file (Ok tt) contracts converts first counts) where
   abbrev its : Survey
-  its = record { answer = Accepted; contracts = contracts; first = first; counts = counts; converts = converts }
+  its = record { answer = Ok tt; contracts = contracts; first = first; counts = counts; converts = converts }
 
   sv : Surveyed file its
   sv = t.accepted refl
 
-  ok : records_checked file ≡ Accepted
+  ok : records_checked file ≡ Ok tt
   ok = sym t.answer_is
 
   pub few_listed : length (listed_in counts) ≤ contracts
   few_listed = listed_few file its sv ok
 
-  pub no_rates_asked : converts ≡ false → Accepted ≡ checked file
-  no_rates_asked e = none_other file Accepted t.answer_is refl (unconverted file its sv ok e)
+  pub no_rates_asked : converts ≡ false → Ok tt ≡ checked file
+  no_rates_asked e = none_other file (Ok tt) t.answer_is refl (unconverted file its sv ok e)
 
   module _ (n : ℕ) (j : Account) (e : n ≡ record_count file) (by : AloneBy first counts n j) where
     pub rated_alone : (none : List ℕ) → none ≡ [] → Places file none j × Recorded (account_of file none)

@@ -16,7 +16,7 @@ use Rattle.account.specs.Check.{Refusal, first_of, refusals, fault_of, too_long,
 use Rattle.exact.specs.Iff.{Iff}
 use Rattle.account.specs.Claims.{given_in, holds_at, RecordsGive, First, Clean, RecordsExactly}
 use Rattle.account.specs.Records.{record_at, record_count, earlier}
-use Rattle.account.specs.declared.answers.Answer.{Answer}
+use Rattle.account.specs.Answers.{Answer}
 use Rattle.account.proofs.Firsts.{number_refusal, record_refusal}
 use Rattle.account.proofs.Laid.{Faultless}
 use Rattle.account.proofs.Verdict.{stops, ends, too_long_lem, cut_short, by_records, fault_number}

@@ -1,5 +1,6 @@
 -- The check on its way: no fault before record k, and the notes are those of the records before it.
 -- Assumes nothing.
+use Rattle.std.specs.Prelude.{Ok}
 use Prim.Native.Nat.{ℕ, zero, suc, ◌+◌, ◌-◌, ◌≤◌, ◌<◌}
 use mathlib.Core.Path.{◌≡◌, refl, sym, ap, subst, subst⁻¹, ◌∙◌}
 use mathlib.Core.Bool.{Bool, true, false, cond, ◌&&◌, ◌||◌}
@@ -24,8 +25,7 @@ use Rattle.account.specs.Parts.{of_kind, start_of}
 use Rattle.account.specs.code.Passing.{part_at_record, counted_to, Passes, Notable, Advances}
 use Rattle.account.specs.Records.{cut, record_at, records, record_count, earlier}
 use Rattle.account.specs.code.Surveyed.{converts_in, Surveyed, Empty, Tallied}
-use Rattle.account.specs.declared.answers.Answer.{Answer}
-use Rattle.account.specs.declared.answers.Answer.TheVariants.{Accepted}
+use Rattle.account.specs.Answers.{Answer}
 use Rattle.account.specs.declared.check.Survey.{Survey}
 use Rattle.account.proofs.Earlier.{cut_more}
 use Rattle.account.proofs.Every.{none_passes}
@@ -63,17 +63,17 @@ going_start file = record {
 }
 
 -- ---- what is handed out with a verdict
-pub if_accepted_lem : (a : Answer) (n : ℕ) → a ≡ Accepted → of_accepted a n ≡ n
+pub if_accepted_lem : (a : Answer) (n : ℕ) → a ≡ Ok tt → of_accepted a n ≡ n
 if_accepted_lem a n e = ap (λ (b : Answer). of_accepted b n) e
 
 if_refused : (a : Answer) (n : ℕ) → (number_of a ≡ 0 → ⊥) → of_accepted a n ≡ 0
 if_refused a n nz = ap (λ (b : Bool). cond b n 0) (ne_eqb (number_of a) 0 nz)
 
-converts_accepted : (file : List ℕ) → records_checked file ≡ Accepted → converts_in file ≡ any other_row (records file)
+converts_accepted : (file : List ℕ) → records_checked file ≡ Ok tt → converts_in file ≡ any other_row (records file)
 converts_accepted file e = ap (λ (a : Answer). eqb (number_of a) 0 && any other_row (records file)) e
 
 pub unconverted :
-    (file : List ℕ) (s : Survey) → Surveyed file s → records_checked file ≡ Accepted → s.converts ≡ false → any other_row (records file) ≡ false
+    (file : List ℕ) (s : Survey) → Surveyed file s → records_checked file ≡ Ok tt → s.converts ≡ false → any other_row (records file) ≡ false
 unconverted file s sv ok e = sym (sv.converts ∙ converts_accepted file ok) ∙ e
 
 -- a refused file
@@ -289,11 +289,11 @@ module _ {file first counts : List ℕ} {contracts k : ℕ} (g : Going file firs
       let i = g.inside in
       omega arith
 
-  pub going_ends : too_long file ≡ false → cut_record file ≡ false → records_checked file ≡ Accepted
+  pub going_ends : too_long file ≡ false → cut_record file ≡ false → records_checked file ≡ Ok tt
   going_ends a b = by_records file a b ∙ ends file (subst (Faultless file) at_end g.fine)
 
   pub surveyed :
-      (s : Survey) → records_checked file ≡ Accepted → s.answer ≡ Accepted → s.contracts ≡ contracts → s.first ≡ first →
+      (s : Survey) → records_checked file ≡ Ok tt → s.answer ≡ Ok tt → s.contracts ≡ contracts → s.first ≡ first →
       s.counts ≡ counts → s.converts ≡ any other_row (cut k file)
       → Surveyed file s
   surveyed s e a o f n m =
@@ -317,7 +317,7 @@ module _ {file first counts : List ℕ} {contracts k : ℕ} (g : Going file firs
 
   pub going_tallied :
       {converts : Bool} → Met file converts k → too_long file ≡ false → cut_record file ≡ false
-      → Tallied file Accepted contracts converts first counts
+      → Tallied file (Ok tt) contracts converts first counts
   going_tallied m a b = let e = going_ends a b in record { answer_is = sym e; accepted = λ z. surveyed _ e refl refl refl refl (met_is m) }
 
 pub tallied_as : {file first counts : List ℕ} {a b : Answer} {contracts : ℕ} {converts : Bool} → a ≡ b

@@ -1,6 +1,7 @@
 -- The joined account: what its parts are, that its records are as the check leaves them where those of both files are, and that with no noon file it is the
 -- morning's.
 -- Assumes nothing.
+use Rattle.std.specs.Prelude.{Ok}
 use Prim.Native.Nat.{ℕ, zero, suc, ◌+◌, ◌*◌, ◌/◌, ◌%◌, ◌≤◌, ◌<◌}
 use mathlib.Core.Path.{◌≡◌, refl, sym, ap, ap₂, subst, subst⁻¹, subst₂, ◌∙◌}
 use mathlib.Core.Bool.{Bool, true, false, cond}
@@ -24,7 +25,6 @@ use Rattle.account.specs.code.Notes.{part_of}
 use Rattle.account.specs.Orders.{Rising, Later, RatesRise}
 use Rattle.account.specs.Parts.{of_kind, of_contract, on_day, contracts_of, prompts_of, rows_of, entries_of, rates_of}
 use Rattle.account.specs.Records.{cut, record_at, records, record_count}
-use Rattle.account.specs.declared.answers.Answer.TheVariants.{Accepted}
 use Rattle.account.proofs.Days.{none_kept}
 use Rattle.account.proofs.Earlier.{cut_more}
 use Rattle.account.proofs.Every.{every_append, every_weaker, every_of_kept, length_kept}
@@ -655,5 +655,5 @@ module _ (m n : List Record) where
       (λ i. five (one i) (two i) (three i) (four i) (mornings i)) ∙ all_turn (joined m n)
 
 -- an account alone is the joined account with an empty noon file
-pub joined_alone : (file : List ℕ) → records_checked file ≡ Accepted → joined (records file) [] ≡ records file
+pub joined_alone : (file : List ℕ) → records_checked file ≡ Ok tt → joined (records file) [] ≡ records file
 joined_alone file ok = alone_turn (records file) ∙ in_parts file (record_count file) (fine file ok)

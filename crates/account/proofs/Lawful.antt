@@ -1,5 +1,6 @@
 -- What the check of the records leaves of a file, and that an account's contract numbers are the listed ones, in rising order.
 -- Assumes nothing.
+use Rattle.std.specs.Prelude.{Ok}
 use Prim.Native.Nat.{ℕ, zero, suc, ◌+◌, ◌≤◌, ◌<◌}
 use mathlib.Core.Path.{◌≡◌, refl, sym, ap, subst, ◌∙◌}
 use mathlib.Core.Bool.{Bool, true, false, ◌||◌}
@@ -16,13 +17,12 @@ use Rattle.account.specs.Lawful.{Recorded}
 use Rattle.account.specs.Orders.{Rising}
 use Rattle.account.specs.Parts.{of_kind, contracts_of}
 use Rattle.account.specs.Records.{records}
-use Rattle.account.specs.declared.answers.Answer.TheVariants.{Accepted}
 use Rattle.account.proofs.Accepted.{accepts}
 use Rattle.account.proofs.Every.{every_weaker}
 use Rattle.account.proofs.Lists.{any_keep}
 use Rattle.account.proofs.Orders.{orders}
 
-pub recorded : (file : List ℕ) → records_checked file ≡ Accepted → Recorded (records file)
+pub recorded : (file : List ℕ) → records_checked file ≡ Ok tt → Recorded (records file)
 recorded file ok =
     let a = accepts file ok in
     record {

@@ -1,5 +1,6 @@
 -- The verdict on a pair of files, and the joined account of a pair that is not refused.
 -- Assumes nothing.
+use Rattle.std.specs.Prelude.{Ok, Err}
 use Prim.Native.Nat.{ℕ, zero, suc, ◌+◌, ◌≤◌, ◌<◌}
 use native.Mathlib.Omega.{arith}
 use mathlib.Core.Path.{◌≡◌, refl, sym, ap, ap₂, ◌∙◌, subst, subst₂}
@@ -26,8 +27,8 @@ use Rattle.account.specs.Parts.{of_kind, of_contract, place_of, start_of, entrie
 use Rattle.account.specs.Records.{records}
 use Rattle.account.specs.code.Standing.{JoinedBy, Places, Stands}
 use Rattle.account.specs.code.Surveyed.{Surveyed}
-use Rattle.account.specs.declared.answers.Answer.{Answer}
-use Rattle.account.specs.declared.answers.Answer.TheVariants.{Accepted, NoonSpread, TooManyJoined}
+use Rattle.account.specs.Answers.{Answer}
+use Rattle.account.specs.declared.answers.Refusal.TheVariants.{NoonSpread, TooManyJoined}
 use Rattle.account.specs.declared.check.Survey.{Survey}
 use Rattle.account.specs.declared.accounts.Account.{Account}
 use Rattle.account.specs.declared.noon.Place.{Place}
@@ -65,23 +66,23 @@ module _ (morning noon : List ℕ) (c : clear (records_verdict morning noon) ≡
   past_second : clear (of_noon (no_spread noon) then of_joined (few_joined (length (account_of morning noon)))) ≡ true
   past_second = (clear_first (of_noon (records_checked noon)) _ past_first).1
 
-  pub morning_recorded : records_checked morning ≡ Accepted
+  pub morning_recorded : records_checked morning ≡ Ok tt
   morning_recorded = accepted_only (records_checked morning) (eqb-true _ _ (clear_first (of_morning (records_checked morning)) _ c).0)
 
-  pub noon_recorded : records_checked noon ≡ Accepted
+  pub noon_recorded : records_checked noon ≡ Ok tt
   noon_recorded = accepted_only (records_checked noon) (eqb-true _ _ (clear_first (of_noon (records_checked noon)) _ past_first).0)
 
   few : length (account_of morning noon) ≤ most_records
   few = go (ltb most_records (length (account_of morning noon))) refl (clear_first (of_noon (no_spread noon)) _ past_second).1
     where
       go : (t : Bool) → ltb most_records (length (account_of morning noon)) ≡ t
-          → clear (of_joined (cond (ltb most_records (length (account_of morning noon))) (TooManyJoined (length (account_of morning noon))) Accepted)) ≡ true
+          → clear (of_joined (cond (ltb most_records (length (account_of morning noon))) (Err (TooManyJoined (length (account_of morning noon)))) (Ok tt))) ≡ true
           → length (account_of morning noon) ≤ most_records
       go true e z =
-          absurd (false≢true (ap (λ (t : Bool). clear (of_joined (cond t (TooManyJoined (length (account_of morning noon))) Accepted))) (sym e) ∙ z))
+          absurd (false≢true (ap (λ (t : Bool). clear (of_joined (cond t (Err (TooManyJoined (length (account_of morning noon)))) (Ok tt)))) (sym e) ∙ z))
       go false e z = ltb-false most_records (length (account_of morning noon)) e
 
-  pub records_accepted : records_verdict morning noon ≡ of_joined Accepted
+  pub records_accepted : records_verdict morning noon ≡ of_joined (Ok tt)
   records_accepted =
       let three = clear_first (of_noon (no_spread noon)) _ past_second in
       goes (of_morning (records_checked morning)) _ (ap number_of morning_recorded)
@@ -100,17 +101,17 @@ module _ (morning noon : List ℕ) (c : clear (joined_verdict morning noon) ≡ 
   pub pair_passed : clear (records_verdict morning noon) ≡ true
   pair_passed = both_clear.0
 
-  pub pair_rated : rates_checked (account_of morning noon) ≡ Accepted
+  pub pair_rated : rates_checked (account_of morning noon) ≡ Ok tt
   pair_rated = accepted_only (rates_checked (account_of morning noon)) (eqb-true _ _ both_clear.1)
 
-  pub joined_accepted : joined_verdict morning noon ≡ of_joined Accepted
+  pub joined_accepted : joined_verdict morning noon ≡ of_joined (Ok tt)
   joined_accepted =
       goes (records_verdict morning noon) _ (eqb-true _ _ pair_passed) ∙ ap of_joined pair_rated
 
-  pub morning_accepted : records_checked morning ≡ Accepted
+  pub morning_accepted : records_checked morning ≡ Ok tt
   morning_accepted = morning_recorded morning noon pair_passed
 
-  pub noon_accepted : records_checked noon ≡ Accepted
+  pub noon_accepted : records_checked noon ≡ Ok tt
   noon_accepted = noon_recorded morning noon pair_passed
 
   pub pair_lawful : Lawful (account_of morning noon)
@@ -133,23 +134,23 @@ module _ (p : Record → Bool) where
 abbrev by_counts : List Record → Answer
 by_counts rs =
     cond (eqb (count (of_kind 5) rs) 0)
-    (cond (eqb (count (of_kind 6) rs) 0) Accepted (NoonSpread (start_of (of_kind 6) rs)))
-    (NoonSpread (start_of (of_kind 5) rs))
+    (cond (eqb (count (of_kind 6) rs) 0) (Ok tt) (Err (NoonSpread (start_of (of_kind 6) rs))))
+    (Err (NoonSpread (start_of (of_kind 5) rs)))
 
 module _ (rs : List Record) where
-  counted_5 : any (of_kind 5) rs ≡ true → by_counts rs ≡ NoonSpread (place_of (of_kind 5) rs)
+  counted_5 : any (of_kind 5) rs ≡ true → by_counts rs ≡ (Err (NoonSpread (place_of (of_kind 5) rs)))
   counted_5 e = rw (none_counted (of_kind 5) rs ∙ ap not e)
 
-  counted_6 : any (of_kind 5) rs ≡ false → any (of_kind 6) rs ≡ true → by_counts rs ≡ NoonSpread (place_of (of_kind 6) rs)
+  counted_6 : any (of_kind 5) rs ≡ false → any (of_kind 6) rs ≡ true → by_counts rs ≡ (Err (NoonSpread (place_of (of_kind 6) rs)))
   counted_6 e f = rw (none_counted (of_kind 5) rs ∙ ap not e, none_counted (of_kind 6) rs ∙ ap not f)
 
-  counted_none : any (of_kind 5) rs ≡ false → any (of_kind 6) rs ≡ false → by_counts rs ≡ Accepted
+  counted_none : any (of_kind 5) rs ≡ false → any (of_kind 6) rs ≡ false → by_counts rs ≡ Ok tt
   counted_none e f = rw (none_counted (of_kind 5) rs ∙ ap not e, none_counted (of_kind 6) rs ∙ ap not f)
 
-  own_some : any mornings_own rs ≡ true → cond (any mornings_own rs) (NoonSpread (place_of mornings_own rs)) Accepted ≡ NoonSpread (place_of mornings_own rs)
+  own_some : any mornings_own rs ≡ true → cond {A = Answer} (any mornings_own rs) (Err (NoonSpread (place_of mornings_own rs))) (Ok tt) ≡ (Err (NoonSpread (place_of mornings_own rs)))
   own_some e = rw e
 
-  own_none : any mornings_own rs ≡ false → cond (any mornings_own rs) (NoonSpread (place_of mornings_own rs)) Accepted ≡ Accepted
+  own_none : any mornings_own rs ≡ false → cond {A = Answer} (any mornings_own rs) (Err (NoonSpread (place_of mornings_own rs))) (Ok tt) ≡ Ok tt
   own_none e = rw e
 
 own_is : (r : Record) → (s t : Bool) → of_kind 5 r ≡ s → of_kind 6 r ≡ t → mornings_own r ≡ s || t
@@ -176,13 +177,13 @@ module _ (a : List Record) (others : Each (λ r. kind r ≤ 4) a) where
   place_first p off r b e = place_after p a (r ∷ b) off ∙ ap (λ (k : ℕ). length a + k) (place_here p r b e)
 
   by_kinds : (es rs : List Record) → Each (λ r. kind r ≡ 5) es → Each (λ r. kind r ≡ 6) rs
-      → by_counts (a ++ (es ++ rs)) ≡ cond (any mornings_own (a ++ (es ++ rs))) (NoonSpread (place_of mornings_own (a ++ (es ++ rs)))) Accepted
+      → by_counts (a ++ (es ++ rs)) ≡ cond (any mornings_own (a ++ (es ++ rs))) (Err (NoonSpread (place_of mornings_own (a ++ (es ++ rs))))) (Ok tt)
   by_kinds (e ∷ es) rs fives sixes =
       let b = es ++ rs in
       let five = eq-eqb (kind e) 5 fives.0 in
       let own : mornings_own e ≡ true = ap (λ (t : Bool). t || of_kind 6 e) five in
       counted_5 (a ++ e ∷ b) (any_first (of_kind 5) (before 5 (omega arith)) e b five)
-      ∙ ap NoonSpread (place_first (of_kind 5) (before 5 (omega arith)) e b five ∙ sym (place_first mornings_own no_own e b own))
+      ∙ ap (λ (n : ℕ). Err (NoonSpread n)) (place_first (of_kind 5) (before 5 (omega arith)) e b five ∙ sym (place_first mornings_own no_own e b own))
       ∙ sym (own_some (a ++ e ∷ b) (any_first mornings_own no_own e b own))
   by_kinds [] (r ∷ rs) fives sixes =
       let six = eq-eqb (kind r) 6 sixes.0 in
@@ -190,14 +191,14 @@ module _ (a : List Record) (others : Each (λ r. kind r ≤ 4) a) where
       let own : mornings_own r ≡ true = own_is r false true (ne_eqb (kind r) 5 (λ z. omega arith)) six in
       let none : any (of_kind 5) (r ∷ rs) ≡ false = none_any (of_kind 5) (r ∷ rs) (every_weaker (r ∷ rs) (λ x e. ne_eqb (kind x) 5 (λ z. omega arith)) sixes) in
       counted_6 (a ++ r ∷ rs) (any_after (of_kind 5) a (r ∷ rs) (before 5 (omega arith)) ∙ none) (any_first (of_kind 6) (before 6 (omega arith)) r rs six)
-      ∙ ap NoonSpread (place_first (of_kind 6) (before 6 (omega arith)) r rs six ∙ sym (place_first mornings_own no_own r rs own))
+      ∙ ap (λ (n : ℕ). Err (NoonSpread n)) (place_first (of_kind 6) (before 6 (omega arith)) r rs six ∙ sym (place_first mornings_own no_own r rs own))
       ∙ sym (own_some (a ++ r ∷ rs) (any_first mornings_own no_own r rs own))
   by_kinds [] [] fives sixes =
       counted_none (a ++ []) (any_after (of_kind 5) a [] (before 5 (omega arith))) (any_after (of_kind 6) a [] (before 6 (omega arith)))
       ∙ sym (own_none (a ++ []) (any_after mornings_own a [] no_own))
 
 -- 12 by what the check handed out of an accepted noon file
-module _ (noon : List ℕ) (n : Survey) (sn : Surveyed noon n) (okn : records_checked noon ≡ Accepted) where
+module _ (noon : List ℕ) (n : Survey) (sn : Surveyed noon n) (okn : records_checked noon ≡ Ok tt) where
   abbrev rs : List Record
   rs = records noon
 
@@ -221,11 +222,11 @@ module _ (noon : List ℕ) (n : Survey) (sn : Surveyed noon n) (okn : records_ch
 
   spread_is : noon_spread n ≡ no_spread noon
   spread_is =
-      ap₂ (λ (x y : ℕ). cond (eqb x 0) (cond (eqb (get_or n.counts rate_part 0) 0) Accepted (NoonSpread (get_or n.first rate_part 0))) (NoonSpread y))
+      ap₂ (λ (x y : ℕ). cond (eqb x 0) (cond (eqb (get_or n.counts rate_part 0) 0) (Ok tt) (Err (NoonSpread (get_or n.first rate_part 0)))) (Err (NoonSpread y)))
       (counts entry_part (omega arith)) (begins entry_part (omega arith))
-      ∙ ap₂ (λ (x y : ℕ). cond (eqb (count (of_kind 5) rs) 0) (cond (eqb x 0) Accepted (NoonSpread y)) (NoonSpread (start_of (of_kind 5) rs)))
+      ∙ ap₂ (λ (x y : ℕ). cond (eqb (count (of_kind 5) rs) 0) (cond (eqb x 0) (Ok tt) (Err (NoonSpread y))) (Err (NoonSpread (start_of (of_kind 5) rs))))
       (counts rate_part (omega arith)) (begins rate_part (omega arith))
-      ∙ subst (λ (xs : List Record). by_counts xs ≡ cond (any mornings_own xs) (NoonSpread (place_of mornings_own xs)) Accepted) apart
+      ∙ subst (λ (xs : List Record). by_counts xs ≡ cond (any mornings_own xs) (Err (NoonSpread (place_of mornings_own xs))) (Ok tt)) apart
       (by_kinds (((of 1 ++ of 2) ++ of 3) ++ of 4) first_four (entries_of rs) (rates_of rs) (entries_kind rs []) (rates_kind rs []))
     where
       counts : (v : ℕ) → v < parts → get_or n.counts v 0 ≡ count (in_part v) rs
@@ -242,7 +243,7 @@ module _ (morning noon : List ℕ) (m n : Survey) (j : Account) (sm : Surveyed m
   rest_by = of_noon (noon_spread n) then of_joined (few_joined j.records)
 
   -- both files accepted
-  rest_is : records_checked morning ≡ Accepted → records_checked noon ≡ Accepted → rest_by ≡ rest
+  rest_is : records_checked morning ≡ Ok tt → records_checked noon ≡ Ok tt → rest_by ≡ rest
   unfolding rest rest_by
   rest_is okm okn =
       ap₂ (λ (a : Answer) (k : ℕ). of_noon a then of_joined (few_joined k)) (spread_is noon n sn okn) (records_are morning noon m n j sm sn okm okn by)
@@ -253,7 +254,7 @@ module _ (morning noon : List ℕ) (m n : Survey) (j : Account) (sm : Surveyed m
       ap₂ (λ (a b : Answer). of_morning a then of_noon b then rest_by) sm.answer sn.answer
       ∙ first (number_of (records_checked morning)) refl
     where
-      second : (k : ℕ) → number_of (records_checked noon) ≡ k → records_checked morning ≡ Accepted → of_noon (records_checked noon) then rest_by ≡ of_noon
+      second : (k : ℕ) → number_of (records_checked noon) ≡ k → records_checked morning ≡ Ok tt → of_noon (records_checked noon) then rest_by ≡ of_noon
           (records_checked noon) then rest
       second zero e okm = ap (λ (v : Verdict). of_noon (records_checked noon) then v) (rest_is okm (accepted_only (records_checked noon) e))
       second (suc k) e okm =
@@ -296,12 +297,12 @@ module _ (morning noon : List ℕ) (m n : Survey) (j : Account) (sm : Surveyed m
     verdict_goes a is = ap of_joined is ∙ sym (goes (records_verdict morning noon) _ none_yet)
 
     -- neither file has a row in another currency
-    pub verdict_ends : m.converts || n.converts ≡ false → of_joined Accepted ≡ joined_verdict morning noon
+    pub verdict_ends : m.converts || n.converts ≡ false → of_joined (Ok tt) ≡ joined_verdict morning noon
     verdict_ends e =
         let c = eq-eqb _ _ none_yet in
         let off = neither m.converts n.converts e in
         let account = account_of morning noon in
-        verdict_goes Accepted (sym (no_other_row (rates_of account) 0 account
+        verdict_goes (Ok tt) (sym (no_other_row (rates_of account) 0 account
         (none_any other_row account
         (every-joined (records morning) (records noon) (λ r. other_row r ≡ false)
         (every-none other_row (records morning) (unconverted morning m sm (morning_recorded morning noon c) off.0))
@@ -322,7 +323,7 @@ by_survey k file s c sv h =
     λ i. record { file = k; first = sv.first (part 2 c) (omega arith) i; records = sv.counts (part 2 c) (omega arith) i }
 
 -- whether a file lists a contract, by its survey
-own_listed : (file : List ℕ) (s : Survey) (c : ℕ) → Surveyed file s → records_checked file ≡ Accepted → c < most_contracts
+own_listed : (file : List ℕ) (s : Survey) (c : ℕ) → Surveyed file s → records_checked file ≡ Ok tt → c < most_contracts
     → not (eqb (get_or s.counts (part 1 c) 0) 0) ≡ listed c (records file)
 own_listed file s c sv ok h =
     ap (λ (x : ℕ). not (eqb x 0))

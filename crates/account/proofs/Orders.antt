@@ -1,5 +1,6 @@
 -- An accepted file is in order: what refusal 8 tests does not hold of any record.
 -- Assumes nothing.
+use Rattle.std.specs.Prelude.{Ok}
 use Prim.Native.Nat.{ℕ, zero, suc, ◌+◌, ◌*◌, ◌≤◌, ◌<◌}
 use native.Mathlib.Nat.{le_of_suc-le-suc, not-suc-le-zero}
 use native.Mathlib.Omega.{arith}
@@ -21,7 +22,6 @@ use Rattle.account.specs.Orders.{Rising, Later, RatesRise, Orders}
 use Rattle.account.specs.PartNumbers.{part, in_part, rate_part, parts}
 use Rattle.account.specs.Parts.{start_of, of_kind, of_contract, contracts_of, prompts_of, rates_of}
 use Rattle.account.specs.Records.{cut, record_at, records, record_count, earlier}
-use Rattle.account.specs.declared.answers.Answer.TheVariants.{Accepted}
 use Rattle.account.proofs.Days.{day_rises, tier_stays}
 use Rattle.account.proofs.Dispatch.{order_1, order_4, order_5, order_6}
 use Rattle.account.proofs.Every.{every_kept, length_kept}
@@ -46,7 +46,7 @@ cut_at (suc n) (suc k) file h =
     cut_at n k (drop record_bytes file) (le_of_suc-le-suc h) ∙ ap (take record_bytes) (drop-drop (k * record_bytes) record_bytes file
     ∙ ap (λ (m : ℕ). drop m file) e)
 
-module _ (file : List ℕ) (ok : records_checked file ≡ Accepted) where
+module _ (file : List ℕ) (ok : records_checked file ≡ Ok tt) where
   pub fine : Faultless file (record_count file)
   fine =
       let g = (exactly file).accepted.forth (record { number = ap number_of ok; place = ap record_of ok }) in

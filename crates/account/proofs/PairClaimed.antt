@@ -1,5 +1,6 @@
 -- What is claimed of a pair of files: each refusal exactly when request 2026-01 says, and the prompts handed back.
 -- Assumes nothing.
+use Rattle.std.specs.Prelude.{Ok, Err}
 use Prim.Native.Nat.{ℕ, zero, suc, ◌+◌, ◌≤◌, ◌<◌}
 use native.Mathlib.Omega.{arith}
 use mathlib.Core.Path.{◌≡◌, refl, sym, ap, subst, subst⁻¹, ◌∙◌}
@@ -25,8 +26,8 @@ use Rattle.account.specs.PairClaims.{Says, BothPass, FirstSpread, NoSpread, Pair
 use Rattle.account.specs.Parts.{place_of, prompts_of}
 use Rattle.account.specs.Records.{records, record_at, record_count, stretch}
 use Rattle.account.specs.Joined.{account_of}
-use Rattle.account.specs.declared.answers.Answer.{Answer}
-use Rattle.account.specs.declared.answers.Answer.TheVariants.{Accepted, NoonSpread, TooManyJoined}
+use Rattle.account.specs.Answers.{Answer}
+use Rattle.account.specs.declared.answers.Refusal.TheVariants.{NoonSpread, TooManyJoined}
 use Rattle.account.specs.declared.noon.Place.{Place}
 use Rattle.account.specs.declared.noon.Verdict.{Verdict}
 use Rattle.account.proofs.Accepted.{part_stands}
@@ -164,15 +165,15 @@ module _ (p : Record → Bool) where
 
 -- ---- the parts of the verdict on a pair
 
-clear_accepted : (a : Answer) (f : ℕ) → clear (record { file = f; answer = a }) ≡ true → a ≡ Accepted
+clear_accepted : (a : Answer) (f : ℕ) → clear (record { file = f; answer = a }) ≡ true → a ≡ Ok tt
 clear_accepted a f e = accepted_only a (eqb-true (number_of a) 0 e)
 
-accepted_clear : (a : Answer) (f : ℕ) → a ≡ Accepted → clear (record { file = f; answer = a }) ≡ true
+accepted_clear : (a : Answer) (f : ℕ) → a ≡ Ok tt → clear (record { file = f; answer = a }) ≡ true
 accepted_clear a f e = ap (λ (x : Answer). eqb (number_of x) 0) e
 
 module _ (noon : List ℕ) where
-  spread_if : (t : Bool) → any mornings_own (records noon) ≡ t → no_spread noon ≡ cond t (NoonSpread (place_of mornings_own (records noon))) Accepted
-  spread_if t e = ap (λ (b : Bool). cond b (NoonSpread (place_of mornings_own (records noon))) Accepted) e
+  spread_if : (t : Bool) → any mornings_own (records noon) ≡ t → no_spread noon ≡ cond t (Err (NoonSpread (place_of mornings_own (records noon)))) (Ok tt)
+  spread_if t e = ap (λ (b : Bool). cond b (Err (NoonSpread (place_of mornings_own (records noon)))) (Ok tt)) e
 
   spread_says : (k : ℕ) → Iff (Says (of_noon (no_spread noon)) 2 12 k) (FirstSpread noon k)
   spread_says k =
@@ -209,8 +210,8 @@ module _ (noon : List ℕ) where
   clear_spread f = accepted_clear (no_spread noon) 2 (spread_if false (none_there mornings_own noon f.none))
 
 module _ (many : ℕ) where
-  few_if : (t : Bool) → ltb most_records many ≡ t → few_joined many ≡ cond t (TooManyJoined many) Accepted
-  few_if t e = ap (λ (b : Bool). cond b (TooManyJoined many) Accepted) e
+  few_if : (t : Bool) → ltb most_records many ≡ t → few_joined many ≡ cond t (Err (TooManyJoined many)) (Ok tt)
+  few_if t e = ap (λ (b : Bool). cond b (Err (TooManyJoined many)) (Ok tt)) e
 
   few_says : (k : ℕ) → Iff (Says (of_joined (few_joined many)) 0 13 k) ((most_records < many) × (many ≡ k))
   few_says k =
@@ -248,7 +249,7 @@ module _ (many : ℕ) where
 
 record RecordsPair (morning noon : List ℕ) : Type 0 where
   of_morning : (n k : ℕ) → 1 ≤ n → n ≤ 9 → Iff (Says (records_verdict morning noon) 1 n k) (RecordsGive morning n k)
-  of_noon : (n k : ℕ) → 1 ≤ n → n ≤ 9 → Iff (Says (records_verdict morning noon) 2 n k) ((records_checked morning ≡ Accepted) × RecordsGive noon n k)
+  of_noon : (n k : ℕ) → 1 ≤ n → n ≤ 9 → Iff (Says (records_verdict morning noon) 2 n k) ((records_checked morning ≡ Ok tt) × RecordsGive noon n k)
   twelve : (k : ℕ) → Iff (Says (records_verdict morning noon) 2 12 k) (BothPass morning noon × FirstSpread noon k)
   thirteen : (k : ℕ) → Iff (Says (records_verdict morning noon) 0 13 k)
       (BothPass morning noon × (NoSpread noon × ((most_records < length (account_of morning noon)) × (length (account_of morning noon) ≡ k))))

@@ -1,5 +1,6 @@
 -- Where the parts of a joined account stand: what is noted of each part, and that an account alone is its own file's.
 -- Assumes nothing.
+use Rattle.std.specs.Prelude.{Ok}
 use Prim.Native.Nat.{ℕ, zero, suc, ◌+◌, ◌/◌, ◌%◌, ◌≤◌, ◌<◌}
 use mathlib.Core.Path.{◌≡◌, refl, sym, ap, ap₂, subst, subst⁻¹, ◌∙◌}
 use mathlib.Core.Bool.{Bool, true, false, not, ◌&&◌, cond, not-not}
@@ -22,7 +23,6 @@ use Rattle.account.specs.Parts.{of_kind, of_contract, contracts_of, entries_of, 
 use Rattle.account.specs.Records.{records, stretch}
 use Rattle.account.specs.code.Standing.{lists, listed_in, from_noon, JoinedBy, supplies, Places}
 use Rattle.account.specs.code.Surveyed.{Surveyed}
-use Rattle.account.specs.declared.answers.Answer.TheVariants.{Accepted}
 use Rattle.account.specs.declared.check.Survey.{Survey}
 use Rattle.account.specs.declared.accounts.Account.{Account}
 use Rattle.account.proofs.Accepted.{accepts, part_stands}
@@ -35,10 +35,10 @@ use Rattle.account.proofs.Lists.{none_counted}
 use Rattle.account.proofs.Noted.{part_is}
 
 -- ---- one file alone
-pub alone : (file none : List ℕ) → none ≡ [] → records_checked file ≡ Accepted → account_of file none ≡ records file
+pub alone : (file none : List ℕ) → none ≡ [] → records_checked file ≡ Ok tt → account_of file none ≡ records file
 alone file none e ok = ap (λ (bytes : List ℕ). account_of file bytes) e ∙ joined_alone file ok
 
-pub alone_recorded : (file none : List ℕ) → none ≡ [] → records_checked file ≡ Accepted → Recorded (account_of file none)
+pub alone_recorded : (file none : List ℕ) → none ≡ [] → records_checked file ≡ Ok tt → Recorded (account_of file none)
 alone_recorded file none e ok = subst⁻¹ Recorded (alone file none e ok) (recorded file ok)
 
 -- ---- no record is of kind 0
@@ -60,11 +60,11 @@ module _ (v : ℕ) (low : v < most_contracts) where
   count_low : (m n : List Record) → count (in_part v) (joined m n) ≡ 0
   count_low m n = sym (length_kept (in_part v) (joined m n)) ∙ ap length (none_low m n)
 
-  file_low : (file : List ℕ) → records_checked file ≡ Accepted → count (in_part v) (records file) ≡ 0
+  file_low : (file : List ℕ) → records_checked file ≡ Ok tt → count (in_part v) (records file) ≡ 0
   file_low file ok = ap (count (in_part v)) (sym (joined_alone file ok)) ∙ count_low (records file) []
 
 -- ---- what is noted of an accepted file
-counted : (file : List ℕ) → records_checked file ≡ Accepted → (v : ℕ) → part_count file v ≡ count (in_part v) (records file)
+counted : (file : List ℕ) → records_checked file ≡ Ok tt → (v : ℕ) → part_count file v ≡ count (in_part v) (records file)
 counted file ok v = if_accepted_lem (records_checked file) (count (in_part v) (records file)) ok
 
 same_below :
@@ -83,7 +83,7 @@ lists_is counts rs c h e =
 
 -- as many contracts as an accepted file lists
 pub listed_few :
-    (file : List ℕ) (s : Survey) → Surveyed file s → records_checked file ≡ Accepted → length (listed_in s.counts) ≤ s.contracts
+    (file : List ℕ) (s : Survey) → Surveyed file s → records_checked file ≡ Ok tt → length (listed_in s.counts) ≤ s.contracts
 listed_few file s sv ok =
     let rs = records file in
     let same =
@@ -117,7 +117,7 @@ from_places f (x ∷ xs) a h =
     h (suc v) (omega arith) ∙ ap f d))
 
 -- ---- a part of either of two accepted files
-module _ (morning noon : List ℕ) (okm : records_checked morning ≡ Accepted) (okn : records_checked noon ≡ Accepted) where
+module _ (morning noon : List ℕ) (okm : records_checked morning ≡ Ok tt) (okn : records_checked noon ≡ Ok tt) where
   either_stands :
       (b : Bool) (k c : ℕ) → k ≤ 4 → c ≤ most_contract
       → records (stretch (cond b noon morning) (cond b (part_start noon (part k c)) (part_start morning (part k c)))
@@ -129,7 +129,7 @@ module _ (morning noon : List ℕ) (okm : records_checked morning ≡ Accepted) 
 -- ---- the joined account
 module _
     (morning noon : List ℕ) (m n : Survey) (j : Account) (sm : Surveyed morning m) (sn : Surveyed noon n)
-    (okm : records_checked morning ≡ Accepted) (okn : records_checked noon ≡ Accepted) (by : JoinedBy m n j) where
+    (okm : records_checked morning ≡ Ok tt) (okn : records_checked noon ≡ Ok tt) (by : JoinedBy m n j) where
   noon_lists : (c : ℕ) → c ≤ most_contract → lists n.counts c ≡ listed c (records noon)
   noon_lists c h =
       lists_is n.counts (records noon) c h (sn.counts (part 1 c) (omega arith) ∙ counted noon okn (part 1 c))
@@ -189,7 +189,7 @@ module _
       ∙ length_kept p account
       ∙ ap (λ (q : Record → Bool). count q account) (sym (part_is k c hk hc))
     where
-      same : (file : List ℕ) → records_checked file ≡ Accepted → part_count file (part k c) ≡ count (of_contract k c) (records file)
+      same : (file : List ℕ) → records_checked file ≡ Ok tt → part_count file (part k c) ≡ count (of_contract k c) (records file)
       same file ok =
           counted file ok (part k c) ∙ ap (λ (q : Record → Bool). count q (records file)) (part_is k c hk hc)
 
@@ -222,7 +222,7 @@ module _
       ∙ either (from_noon n.counts v)
       ∙ sym (count_low v low (records morning) (records noon))
     where
-      none : (file : List ℕ) → records_checked file ≡ Accepted → part_count file v ≡ 0
+      none : (file : List ℕ) → records_checked file ≡ Ok tt → part_count file v ≡ 0
       none file ok = counted file ok v ∙ file_low v low file ok
 
       either : (t : Bool) → ◌≡◌ {A = ℕ} (cond t 0 0) 0

@@ -1,5 +1,6 @@
 -- Refusals 14 and 15: the first row with a fault, list by list and part by part, and what an account without one has.
 -- Assumes nothing.
+use Rattle.std.specs.Prelude.{Ok, Err}
 use Prim.Native.Nat.{ℕ, suc, ◌+◌, ◌-◌, ◌*◌, ◌/◌, ◌%◌, ◌≤◌, ◌<◌}
 use native.Mathlib.Omega.{arith}
 use native.Mathlib.Nat.{zero-add}
@@ -26,8 +27,8 @@ use Rattle.account.specs.PartNumbers.{in_part, entry_part, rate_part, parts, row
 use Rattle.account.specs.Parts.{of_kind, of_contract, rows_of, rates_of}
 use Rattle.account.specs.Products.{of_currency, has_rate, beyond_in, conversion_beyond, Convertible}
 use Rattle.account.specs.Records.{cut, record_at, records, record_count}
-use Rattle.account.specs.declared.answers.Answer.{Answer}
-use Rattle.account.specs.declared.answers.Answer.TheVariants.{Accepted, NoRate, ConversionBeyond}
+use Rattle.account.specs.Answers.{Answer}
+use Rattle.account.specs.declared.answers.Refusal.TheVariants.{NoRate, ConversionBeyond}
 use Rattle.account.proofs.Every.{every_weaker, every_of_kept, length_kept}
 use Rattle.account.proofs.JoinedLaws.{every_turn, none_turn, turn_join, parts_of, joined_turn}
 use Rattle.account.proofs.Lists.{every_both, kept_pass}
@@ -90,7 +91,7 @@ module _ (rates : List Record) where
       go false true h rest = refl
       go false false h rest = rest h
 
-  pub no_rows : (k : ℕ) (xs : List Record) → Each (λ r. kind r ≡ 3 → ⊥) xs → first_rate_fault k rates xs ≡ Accepted
+  pub no_rows : (k : ℕ) (xs : List Record) → Each (λ r. kind r ≡ 3 → ⊥) xs → first_rate_fault k rates xs ≡ Ok tt
   no_rows k [] h = refl
   no_rows k (r ∷ xs) h = rw (ne_eqb (kind r) 3 h.0) (no_rows (k + 1) xs h.1)
 
@@ -105,14 +106,14 @@ module _ (rates : List Record) where
       none false false h = refl
       none true false h = absurd (never (sym h))
 
-  pub no_other_row : (k : ℕ) (xs : List Record) → any other_row xs ≡ false → first_rate_fault k rates xs ≡ Accepted
+  pub no_other_row : (k : ℕ) (xs : List Record) → any other_row xs ≡ false → first_rate_fault k rates xs ≡ Ok tt
   no_other_row k [] h = refl
   no_other_row k (r ∷ xs) h =
       let t = neither (other_row r) (any other_row xs) h in
       fault_on k r xs (not_other r t.0) ∙ no_other_row (k + 1) xs t.1
 
   -- what no fault says of each row
-  pub each_row : (k : ℕ) (xs : List Record) → first_rate_fault k rates xs ≡ Accepted
+  pub each_row : (k : ℕ) (xs : List Record) → first_rate_fault k rates xs ≡ Ok tt
       → Each (λ r. kind r ≡ 3 → (has_rate rates r ≡ true) × (conversion_beyond rates r ≡ false)) xs
   each_row k [] e = tt
   each_row k (r ∷ xs) e =
@@ -127,16 +128,16 @@ module _ (rates : List Record) where
 
   -- ---- one row, by its tests
   module _ (k : ℕ) (r : Record) (is : kind r ≡ 3) where
-    row_is : (a b : Bool) → has_rate rates r ≡ a → conversion_beyond rates r ≡ b → row_answer rates k r ≡ or_else (two (not a) b) k Accepted
+    row_is : (a b : Bool) → has_rate rates r ≡ a → conversion_beyond rates r ≡ b → row_answer rates k r ≡ or_else (two (not a) b) k (Ok tt)
     row_is a b e f = rw (eq-eqb (kind r) 3 is, e, f)
 
-    pub row_none : has_rate rates r ≡ true → conversion_beyond rates r ≡ false → Accepted ≡ row_answer rates k r
+    pub row_none : has_rate rates r ≡ true → conversion_beyond rates r ≡ false → Ok tt ≡ row_answer rates k r
     row_none e f = sym (row_is true false e f)
 
-    pub row_beyond : has_rate rates r ≡ true → conversion_beyond rates r ≡ true → ConversionBeyond k ≡ row_answer rates k r
+    pub row_beyond : has_rate rates r ≡ true → conversion_beyond rates r ≡ true → (Err (ConversionBeyond k)) ≡ row_answer rates k r
     row_beyond e f = sym (row_is true true e f)
 
-    pub row_unrated : has_rate rates r ≡ false → NoRate k ≡ row_answer rates k r
+    pub row_unrated : has_rate rates r ≡ false → (Err (NoRate k)) ≡ row_answer rates k r
     row_unrated e = sym (row_is false (conversion_beyond rates r) e refl)
 
   -- ---- the rows of a part, from row i on
@@ -161,21 +162,21 @@ module _ (rates : List Record) where
     pub rows_next : (i : ℕ) → i < record_count rows → number_of (row_answer rates (k + i) (record_at rows i)) ≡ 0 → rows_from i ≡ rows_from (i + 1)
     rows_next i h e =
         let r = record_at rows i in
-        step i h ∙ ap (λ (n : ℕ). or_else n (k + i) (rows_from (i + 1))) (faultless (k + i) Accepted (no_rate r) (beyond r) e)
+        step i h ∙ ap (λ (n : ℕ). or_else n (k + i) (rows_from (i + 1))) (faultless (k + i) (Ok tt) (no_rate r) (beyond r) e)
 
     pub rows_stop : (i : ℕ) → i < record_count rows → (number_of (row_answer rates (k + i) (record_at rows i)) ≡ 0 → ⊥)
         → rows_from i ≡ row_answer rates (k + i) (record_at rows i)
     rows_stop i h d =
         let r = record_at rows i in
-        step i h ∙ some_fault (k + i) Accepted (rows_from (i + 1)) (no_rate r) (beyond r) (λ e z. d e) refl
+        step i h ∙ some_fault (k + i) (Ok tt) (rows_from (i + 1)) (no_rate r) (beyond r) (λ e z. d e) refl
 
-    pub rows_end : (i : ℕ) → record_count rows ≤ i → rows_from i ≡ Accepted
+    pub rows_end : (i : ℕ) → record_count rows ≤ i → rows_from i ≡ Ok tt
     rows_end i h =
         let e : record_count rows - i ≡ 0 = omega arith in
         ap (λ (n : ℕ). first_rate_fault (k + i) rates (cut n (drop (i * record_bytes) rows))) e
 
 -- ---- an account part by part
-pub conversions_hold : (rs : List Record) → Recorded rs → rates_checked rs ≡ Accepted → (c : ℕ) → Each (Convertible (rates_of rs)) (rows_of c rs)
+pub conversions_hold : (rs : List Record) → Recorded rs → rates_checked rs ≡ Ok tt → (c : ℕ) → Each (Convertible (rates_of rs)) (rows_of c rs)
 conversions_hold rs known e c =
     every_weaker (rows_of c rs)
     (λ r f. let t = f.1.1 (kind_of 3 c r f.1.0).0 in convertible (rates_of rs) r f.0 t.0 t.1)
@@ -187,7 +188,7 @@ conversions_hold rs known e c =
     (every_of_kept (λ r. kind r ≡ 3 → (has_rate (rates_of rs) r ≡ true) × (conversion_beyond (rates_of rs) r ≡ false)) (of_contract 3 c) rs
     (each_row (rates_of rs) 0 rs e))))
 
-pub lawful_of : (rs : List Record) → Recorded rs → rates_checked rs ≡ Accepted → Lawful rs
+pub lawful_of : (rs : List Record) → Recorded rs → rates_checked rs ≡ Ok tt → Lawful rs
 lawful_of rs r e =
     record {
       ranges = r.ranges;
@@ -269,7 +270,7 @@ module _ (m n : List Record) where
         ap (first_rate_fault k rates) (one_on c h)
         ∙ stop rates k (parts_of account (row_part + c)) (turn (row_part + (c + 1)) (34 - (c + 1))) d
 
-  pub turn_end : (k : ℕ) → rows_on_from k most_contracts ≡ Accepted
+  pub turn_end : (k : ℕ) → rows_on_from k most_contracts ≡ Ok tt
   turn_end k = no_rows rates k (turn (part 4 0) 18) (unrowed (part 4 0) 18 (λ v l h e. omega arith))
 
   -- how many records stand before contract c's rows

@@ -1,5 +1,6 @@
 -- 14 and 15 come exactly when they are the first to hold; so of a file, whose records are looked at before.
 -- Assumes nothing.
+use Rattle.std.specs.Prelude.{Ok}
 use Prim.Native.Nat.{ℕ, zero, suc, ◌+◌, ◌≤◌, ◌<◌}
 use native.Mathlib.Omega.{arith}
 use mathlib.Core.Path.{◌≡◌, refl, sym, ap, subst, subst⁻¹, ◌∙◌}
@@ -18,8 +19,7 @@ use Rattle.account.specs.Claims.{Comes, RecordsGive, Gives, Clean, FirstRate, Ra
 use Rattle.account.specs.Parts.{of_kind, rates_of}
 use Rattle.account.specs.Products.{has_rate, conversion_beyond}
 use Rattle.account.specs.Records.{records}
-use Rattle.account.specs.declared.answers.Answer.{Answer}
-use Rattle.account.specs.declared.answers.Answer.TheVariants.{Accepted}
+use Rattle.account.specs.Answers.{Answer}
 use Rattle.account.proofs.AcceptedOnly.{accepted_only}
 use Rattle.account.proofs.Alone.{records_decide, records_refused}
 use Rattle.account.proofs.Exactly.{Rising, leads, leads_back, none-given, clean_back, exactly}
@@ -67,7 +67,7 @@ module _ (rates : List Record) where
       ∙ stops_at (k + 1) xs i n (omega arith) (λ j l. f (suc j) (omega arith)) e nz
       ∙ ap (refusal n) z
 
-  ends_at : (k : ℕ) (xs : List Record) → ((j : ℕ) → j < length xs → rate_fault_of rates (get_or xs j []) ≡ 0) → first_rate_fault k rates xs ≡ Accepted
+  ends_at : (k : ℕ) (xs : List Record) → ((j : ℕ) → j < length xs → rate_fault_of rates (get_or xs j []) ≡ 0) → first_rate_fault k rates xs ≡ Ok tt
   ends_at k [] f = refl
   ends_at k (r ∷ xs) f = fault_on rates k r xs (f 0 (omega arith)) ∙ ends_at (k + 1) xs (λ j l. f (suc j) (omega arith))
 
@@ -207,7 +207,7 @@ module _ (file : List ℕ) where
   rated = rates_checked (records file)
 
   -- the records first, then the rates
-  told : {P : Type 0} → ((number_of recorded ≡ 0 → ⊥) → checked file ≡ recorded → P) → (recorded ≡ Accepted → checked file ≡ rated → P) → P
+  told : {P : Type 0} → ((number_of recorded ≡ 0 → ⊥) → checked file ≡ recorded → P) → (recorded ≡ Ok tt → checked file ≡ rated → P) → P
   told {P} a b = go (eqb (number_of recorded) 0) refl
     where
       go : (t : Bool) → eqb (number_of recorded) 0 ≡ t → P
@@ -233,10 +233,10 @@ module _ (file : List ℕ) where
             (sym (records_refused file (λ z. let e : n ≡ 0 = sym g.number ∙ z in omega arith))) n k g;
       }
 
-  clean : recorded ≡ Accepted → Clean file
+  clean : recorded ≡ Ok tt → Clean file
   clean ok = (exactly file).accepted.forth (record { number = ap number_of ok; place = ap record_of ok })
 
-  unclean : Clean file → recorded ≡ Accepted
+  unclean : Clean file → recorded ≡ Ok tt
   unclean c = accepted_only recorded ((exactly file).accepted.back c).number
 
   past : (n k : ℕ) → (1 ≤ n → n ≤ 9 → ⊥) → Iff (Gives file n k) (Clean file × Comes rated n k)

@@ -1,5 +1,6 @@
 -- The verdict, from the faults of the records: the first fault answers, and without one the file is accepted.
 -- Assumes nothing.
+use Rattle.std.specs.Prelude.{Ok, Err}
 use Prim.Native.Nat.{ℕ, zero, suc, ◌+◌, ◌-◌, ◌*◌, ◌≤◌, ◌<◌}
 use mathlib.Core.Path.{◌≡◌, refl, sym, ap, ◌∙◌}
 use mathlib.Core.Bool.{Bool, true, false, cond}
@@ -17,8 +18,8 @@ use Rattle.account.specs.Check.{records_checked}
 use Rattle.account.specs.code.Notes.{before_at, prompts_noted, unlisted_by, over_limit_by, fault_at}
 use Rattle.account.specs.code.Surveyed.{length_checked}
 use Rattle.account.specs.Records.{cut, record_at, records, record_count, earlier}
-use Rattle.account.specs.declared.answers.Answer.{Answer}
-use Rattle.account.specs.declared.answers.Answer.TheVariants.{Accepted, TooLong, CutRecord}
+use Rattle.account.specs.Answers.{Answer}
+use Rattle.account.specs.declared.answers.Refusal.TheVariants.{TooLong, CutRecord}
 use Rattle.account.proofs.Firsts.{fault_range, number_refusal}
 use Rattle.account.proofs.Laid.{Faultless}
 use Rattle.account.proofs.Walk.{cut_on}
@@ -57,41 +58,41 @@ module _ (file : List ℕ) where
       reach k (omega arith) fine ∙ step k h ∙ ap (λ (m : ℕ). or_else m k (rest k)) e
       ∙ ap (λ (b : Bool). cond b (rest k) (refusal n k)) (ne_eqb n 0 nz)
 
-  pub ends : Faultless file (record_count file) → first_fault 0 [] (records file) ≡ Accepted
+  pub ends : Faultless file (record_count file) → first_fault 0 [] (records file) ≡ Ok tt
   ends fine =
       let n = record_count file in
       let e : n - n ≡ 0 = omega arith in
       reach n (omega arith) fine
       ∙ ap (λ (m : ℕ). first_fault n (earlier file n) (cut m (drop (n * record_bytes) file))) e
 
-  pub too_long_lem : too_long file ≡ true → records_checked file ≡ TooLong
-  too_long_lem e = ap (λ (b : Bool). cond b TooLong (cond (cut_record file) CutRecord (first_fault 0 [] (records file)))) e
+  pub too_long_lem : too_long file ≡ true → records_checked file ≡ Err TooLong
+  too_long_lem e = ap (λ (b : Bool). cond b (Err TooLong) (cond (cut_record file) (Err CutRecord) (first_fault 0 [] (records file)))) e
 
-  pub cut_short : too_long file ≡ false → cut_record file ≡ true → records_checked file ≡ CutRecord
+  pub cut_short : too_long file ≡ false → cut_record file ≡ true → records_checked file ≡ Err CutRecord
   cut_short e f =
-      ap (λ (b : Bool). cond b TooLong (cond (cut_record file) CutRecord (first_fault 0 [] (records file)))) e
-      ∙ ap (λ (b : Bool). cond b CutRecord (first_fault 0 [] (records file))) f
+      ap (λ (b : Bool). cond b (Err TooLong) (cond (cut_record file) (Err CutRecord) (first_fault 0 [] (records file)))) e
+      ∙ ap (λ (b : Bool). cond b (Err CutRecord) (first_fault 0 [] (records file))) f
 
   pub by_records : too_long file ≡ false → cut_record file ≡ false → records_checked file ≡ first_fault 0 [] (records file)
   by_records e f =
-      ap (λ (b : Bool). cond b TooLong (cond (cut_record file) CutRecord (first_fault 0 [] (records file)))) e
-      ∙ ap (λ (b : Bool). cond b CutRecord (first_fault 0 [] (records file))) f
+      ap (λ (b : Bool). cond b (Err TooLong) (cond (cut_record file) (Err CutRecord) (first_fault 0 [] (records file)))) e
+      ∙ ap (λ (b : Bool). cond b (Err CutRecord) (first_fault 0 [] (records file))) f
 
 -- ---- 1 and 2
 module _ (file : List ℕ) where
-  pub length_long : too_long file ≡ true → TooLong ≡ length_checked file
+  pub length_long : too_long file ≡ true → Err TooLong ≡ length_checked file
   length_long e = rw e
 
-  pub length-cut-short : too_long file ≡ false → cut_record file ≡ true → CutRecord ≡ length_checked file
+  pub length-cut-short : too_long file ≡ false → cut_record file ≡ true → Err CutRecord ≡ length_checked file
   length-cut-short e f = rw (e, f)
 
-  pub length_whole : too_long file ≡ false → cut_record file ≡ false → Accepted ≡ length_checked file
+  pub length_whole : too_long file ≡ false → cut_record file ≡ false → Ok tt ≡ length_checked file
   length_whole e f = rw (e, f)
 
-  pub length-fine : length_checked file ≡ Accepted → (too_long file ≡ false) × (cut_record file ≡ false)
+  pub length-fine : length_checked file ≡ Ok tt → (too_long file ≡ false) × (cut_record file ≡ false)
   length-fine = go (too_long file) (cut_record file)
     where
-      go : (t u : Bool) → cond t TooLong (cond u CutRecord Accepted) ≡ Accepted → (t ≡ false) × (u ≡ false)
+      go : (t u : Bool) → cond {A = Answer} t (Err TooLong) (cond u (Err CutRecord) (Ok tt)) ≡ Ok tt → (t ≡ false) × (u ≡ false)
       go true u e = absurd (omega (arith, ap number_of e))
       go false true e = absurd (omega (arith, ap number_of e))
       go false false e = (refl, refl)
@@ -99,8 +100,8 @@ module _ (file : List ℕ) where
   pub length_refused : (number_of (length_checked file) ≡ 0 → ⊥) → length_checked file ≡ records_checked file
   length_refused = go (too_long file) (cut_record file)
     where
-      go : (t u : Bool) → (number_of (cond t TooLong (cond u CutRecord Accepted)) ≡ 0 → ⊥)
-          → cond t TooLong (cond u CutRecord Accepted) ≡ cond t TooLong (cond u CutRecord (first_fault 0 [] (records file)))
+      go : (t u : Bool) → (number_of (cond t (Err TooLong) (cond u (Err CutRecord) (Ok tt))) ≡ 0 → ⊥)
+          → cond t (Err TooLong) (cond u (Err CutRecord) (Ok tt)) ≡ cond t (Err TooLong) (cond u (Err CutRecord) (first_fault 0 [] (records file)))
       go true u h = refl
       go false true h = refl
       go false false h = absurd (h refl)

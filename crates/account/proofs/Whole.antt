@@ -1,5 +1,6 @@
 -- Each record of an account is in exactly one of its parts: of a joined account, and so of one file, which is joined with none.
 -- Assumes nothing.
+use Rattle.std.specs.Prelude.{Ok}
 use Prim.Native.Nat.{ℕ, ◌+◌, ◌≤◌, ◌<◌}
 use mathlib.Core.Path.{◌≡◌, refl, sym, ap, ap₂, subst, ◌∙◌}
 use mathlib.Core.Bool.{Bool, true, false, not, ◌&&◌, ◌||◌, or-true}
@@ -22,7 +23,6 @@ use Rattle.account.specs.Noon.{clear, joined_verdict}
 use Rattle.account.specs.Parts.{of_kind, of_contract, contracts_of, entries_of, rates_of}
 use Rattle.account.specs.Records.{records}
 use Rattle.account.specs.Whole.{parts_by, in_how_many, Whole}
-use Rattle.account.specs.declared.answers.Answer.TheVariants.{Accepted}
 use Rattle.account.proofs.Alone.{passes}
 use Rattle.account.proofs.Every.{every_append, every_weaker}
 use Rattle.account.proofs.JoinedLaws.{other_kind, joined-kind, entries_kind, rates_kind, joined_alone}
@@ -211,10 +211,10 @@ whole account law within =
     record { one_part = one; together = all_counted (parts_by (contracts_of account)) account one }
 
 -- of an accepted file, and of a pair of files that is not refused
-pub file_kinds : (file : List ℕ) → checked file ≡ Accepted → Each KindWithin (records file)
+pub file_kinds : (file : List ℕ) → checked file ≡ Ok tt → Each KindWithin (records file)
 file_kinds file ok = subst (Each KindWithin) (joined_alone file (passes file ok).recorded) (kinds (records file) [])
 
-pub whole_file : (file : List ℕ) → checked file ≡ Accepted → Whole (records file)
+pub whole_file : (file : List ℕ) → checked file ≡ Ok tt → Whole (records file)
 whole_file file ok = whole (records file) (recorded file (passes file ok).recorded) (file_kinds file ok)
 
 pub pair_kinds : (morning noon : List ℕ) → Each KindWithin (account_of morning noon)

@@ -1,74 +1,85 @@
 -- The table of refusals of document 01, "What comes back", and of requests 2026-01, 2026-05, 2026-07, 2026-08, 2026-10, 2026-12 and
 -- 2026-14: the number of each and the record that it names.
 -- Assumes nothing.
-use Rattle.std.specs.Prelude.{ℕ, cond, eqb}
-use Rattle.account.specs.declared.answers.Answer.{Answer}
-use Rattle.account.specs.declared.answers.Answer.TheVariants.{Accepted, TooLong, CutRecord, UnknownKind, KindFalls, UnusedByte, FieldOutside, Unlisted}
-use Rattle.account.specs.declared.answers.Answer.TheVariants.{OutOfOrder, OverLimit, TooFewNumbers, NoSuchQuestion, NoonSpread, TooManyJoined, NoRate}
-use Rattle.account.specs.declared.answers.Answer.TheVariants.{ConversionBeyond, TooFewBytes, LengthsDiffer, OtherCounts, TooManyAccounts, LimitBelowZero}
-use Rattle.account.specs.declared.answers.Answer.TheVariants.{AmountOutside, NoTicketLeft}
+use Rattle.std.specs.Prelude.{ℕ, cond, eqb, Result, Ok, Err}
+use Rattle.account.specs.declared.answers.Refusal.{Refusal}
+use Rattle.account.specs.declared.answers.Refusal.TheVariants.{TooLong, CutRecord, UnknownKind, KindFalls, UnusedByte, FieldOutside, Unlisted}
+use Rattle.account.specs.declared.answers.Refusal.TheVariants.{OutOfOrder, OverLimit, TooFewNumbers, NoSuchQuestion, NoonSpread, TooManyJoined, NoRate}
+use Rattle.account.specs.declared.answers.Refusal.TheVariants.{ConversionBeyond, TooFewBytes, LengthsDiffer, OtherCounts, TooManyAccounts, LimitBelowZero}
+use Rattle.account.specs.declared.answers.Refusal.TheVariants.{AmountOutside, NoTicketLeft}
 
--- "No."; 0 where nothing is refused
-abbrev pub number_of : Answer → ℕ
-number_of Accepted = 0
-number_of TooLong = 1
-number_of CutRecord = 2
-number_of (UnknownKind k) = 3
-number_of (KindFalls k) = 4
-number_of (UnusedByte k) = 5
-number_of (FieldOutside k) = 6
-number_of (Unlisted k) = 7
-number_of (OutOfOrder k) = 8
-number_of (OverLimit k) = 9
-number_of (TooFewNumbers n) = 10
-number_of (NoSuchQuestion n) = 11
-number_of (NoonSpread k) = 12
-number_of (TooManyJoined n) = 13
-number_of (NoRate k) = 14
-number_of (ConversionBeyond k) = 15
-number_of TooFewBytes = 16
-number_of LengthsDiffer = 17
-number_of OtherCounts = 18
-number_of TooManyAccounts = 19
-number_of LimitBelowZero = 20
-number_of (AmountOutside n) = 21
-number_of NoTicketLeft = 22
+-- what comes back: nothing is refused, or what is
+abbrev pub Answer : Type 0
+Answer = Result Unit Refusal
+
+-- "No."
+abbrev pub refusal_number : Refusal → ℕ
+refusal_number TooLong = 1
+refusal_number CutRecord = 2
+refusal_number (UnknownKind k) = 3
+refusal_number (KindFalls k) = 4
+refusal_number (UnusedByte k) = 5
+refusal_number (FieldOutside k) = 6
+refusal_number (Unlisted k) = 7
+refusal_number (OutOfOrder k) = 8
+refusal_number (OverLimit k) = 9
+refusal_number (TooFewNumbers k) = 10
+refusal_number (NoSuchQuestion k) = 11
+refusal_number (NoonSpread k) = 12
+refusal_number (TooManyJoined k) = 13
+refusal_number (NoRate k) = 14
+refusal_number (ConversionBeyond k) = 15
+refusal_number TooFewBytes = 16
+refusal_number LengthsDiffer = 17
+refusal_number OtherCounts = 18
+refusal_number TooManyAccounts = 19
+refusal_number LimitBelowZero = 20
+refusal_number (AmountOutside k) = 21
+refusal_number NoTicketLeft = 22
 
 -- "Record named"; 0 where none is
+abbrev pub refusal_record : Refusal → ℕ
+refusal_record TooLong = 0
+refusal_record CutRecord = 0
+refusal_record (UnknownKind k) = k
+refusal_record (KindFalls k) = k
+refusal_record (UnusedByte k) = k
+refusal_record (FieldOutside k) = k
+refusal_record (Unlisted k) = k
+refusal_record (OutOfOrder k) = k
+refusal_record (OverLimit k) = k
+refusal_record (TooFewNumbers k) = k
+refusal_record (NoSuchQuestion k) = k
+refusal_record (NoonSpread k) = k
+refusal_record (TooManyJoined k) = k
+refusal_record (NoRate k) = k
+refusal_record (ConversionBeyond k) = k
+refusal_record TooFewBytes = 0
+refusal_record LengthsDiffer = 0
+refusal_record OtherCounts = 0
+refusal_record TooManyAccounts = 0
+refusal_record LimitBelowZero = 0
+refusal_record (AmountOutside k) = k
+refusal_record NoTicketLeft = 0
+
+-- 0 where nothing is refused
+abbrev pub number_of : Answer → ℕ
+number_of (Ok u) = 0
+number_of (Err r) = refusal_number r
+
 abbrev pub record_of : Answer → ℕ
-record_of Accepted = 0
-record_of TooLong = 0
-record_of CutRecord = 0
-record_of (UnknownKind k) = k
-record_of (KindFalls k) = k
-record_of (UnusedByte k) = k
-record_of (FieldOutside k) = k
-record_of (Unlisted k) = k
-record_of (OutOfOrder k) = k
-record_of (OverLimit k) = k
-record_of (TooFewNumbers n) = n
-record_of (NoSuchQuestion n) = n
-record_of (NoonSpread k) = k
-record_of (TooManyJoined n) = n
-record_of (NoRate k) = k
-record_of (ConversionBeyond k) = k
-record_of TooFewBytes = 0
-record_of LengthsDiffer = 0
-record_of OtherCounts = 0
-record_of TooManyAccounts = 0
-record_of LimitBelowZero = 0
-record_of (AmountOutside n) = n
-record_of NoTicketLeft = 0
+record_of (Ok u) = 0
+record_of (Err r) = refusal_record r
 
 -- the refusal of a record, by its number
 abbrev pub refusal : ℕ → ℕ → Answer
 refusal number k =
-    cond (eqb number 3) (UnknownKind k)
-    (cond (eqb number 4) (KindFalls k)
-    (cond (eqb number 5) (UnusedByte k)
-    (cond (eqb number 6) (FieldOutside k)
-    (cond (eqb number 7) (Unlisted k)
-    (cond (eqb number 8) (OutOfOrder k)
-    (cond (eqb number 9) (OverLimit k)
-    (cond (eqb number 14) (NoRate k)
-    (cond (eqb number 15) (ConversionBeyond k) Accepted))))))))
+    cond (eqb number 3) (Err (UnknownKind k))
+    (cond (eqb number 4) (Err (KindFalls k))
+    (cond (eqb number 5) (Err (UnusedByte k))
+    (cond (eqb number 6) (Err (FieldOutside k))
+    (cond (eqb number 7) (Err (Unlisted k))
+    (cond (eqb number 8) (Err (OutOfOrder k))
+    (cond (eqb number 9) (Err (OverLimit k))
+    (cond (eqb number 14) (Err (NoRate k))
+    (cond (eqb number 15) (Err (ConversionBeyond k)) (Ok tt)))))))))

@@ -1,15 +1,15 @@
 -- The check of an account file: the table of refusals of document 01, "What comes back", and its order, with request 2026-05.
 -- `earlier` are the records before the one looked at, the latest first.
 -- Assumes nothing.
-use Rattle.std.specs.Prelude.{ℕ, ◌+◌, ◌*◌, ◌%◌, Bool, false, not, ◌&&◌, ◌||◌, cond, List, [], ◌∷◌, length, eqb, leb, ltb}
+use Rattle.std.specs.Prelude.{ℕ, ◌+◌, ◌*◌, ◌%◌, Bool, false, not, ◌&&◌, ◌||◌, cond, List, [], ◌∷◌, length, eqb, leb, ltb, Ok, Err}
 use Rattle.exact.specs.Lists.{any, count}
 use Rattle.record.specs.Layout.{Record, record_bytes, ◌has◌, by_kind, kind, rate_currency, contract, tier, day, legs_of, leg_tier, leg_side, second_contract}
 use Rattle.record.specs.Ranges.{unknown_kind, unused_byte, field_outside}
 use Rattle.account.specs.Answers.{refusal}
 use Rattle.account.specs.Parts.{of_kind, of_contract}
 use Rattle.account.specs.Records.{records}
-use Rattle.account.specs.declared.answers.Answer.{Answer}
-use Rattle.account.specs.declared.answers.Answer.TheVariants.{Accepted, TooLong, CutRecord}
+use Rattle.account.specs.Answers.{Answer}
+use Rattle.account.specs.declared.answers.Refusal.TheVariants.{TooLong, CutRecord}
 
 -- The record before; where there is none, one of no bytes, so that its kind is 0.
 abbrev pub the_one_before : List Record → Record
@@ -153,7 +153,7 @@ abbrev pub or_else : ℕ → ℕ → Answer → Answer
 or_else number k later = cond (eqb number 0) later (refusal number k)
 
 abbrev pub first_fault : ℕ → List Record → List Record → Answer
-first_fault k earlier [] = Accepted
+first_fault k earlier [] = Ok tt
 first_fault k earlier (r ∷ later) = or_else (fault_of earlier r) k (first_fault (k + 1) (r ∷ earlier) later)
 
 -- "At most 640 records"; 1: "file longer than 61,440 bytes"
@@ -170,4 +170,4 @@ cut_record file = not (eqb (length file % record_bytes) 0)
 -- "Order: 1, 2; then records from 0 up"
 abbrev pub records_checked : List ℕ → Answer
 records_checked file =
-    cond (too_long file) TooLong (cond (cut_record file) CutRecord (first_fault 0 [] (records file)))
+    cond (too_long file) (Err TooLong) (cond (cut_record file) (Err CutRecord) (first_fault 0 [] (records file)))

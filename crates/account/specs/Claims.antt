@@ -1,7 +1,7 @@
 -- What document 01 demands of the check, as claims about the definition `checked`: each refusal is given exactly when the
 -- table says, the first in its order, and a file is accepted exactly when nothing is wrong with it.
 -- Assumes nothing.
-use Rattle.std.specs.Prelude.{ℕ, ◌≤◌, ◌<◌, ◌≡◌, Bool, true, false, ◌&&◌, ◌||◌, cond, List, [], ◌∷◌, ◌⊎◌, length, get_or, eqb}
+use Rattle.std.specs.Prelude.{ℕ, ◌≤◌, ◌<◌, ◌≡◌, Bool, true, false, ◌&&◌, ◌||◌, cond, List, [], ◌∷◌, ◌⊎◌, length, get_or, eqb, Ok}
 use Rattle.exact.specs.Iff.{Iff}
 use Rattle.exact.specs.Lists.{any}
 use Rattle.record.specs.Layout.{Record, ◌has◌, by_kind, kind, contract}
@@ -15,8 +15,7 @@ use Rattle.account.specs.Lawful.{Lawful}
 use Rattle.account.specs.Orders.{Orders}
 use Rattle.account.specs.Parts.{of_kind, of_contract, rates_of}
 use Rattle.account.specs.Records.{records, record_at, record_count, earlier}
-use Rattle.account.specs.declared.answers.Answer.{Answer}
-use Rattle.account.specs.declared.answers.Answer.TheVariants.{Accepted}
+use Rattle.account.specs.Answers.{Answer}
 
 -- whether the table gives refusal n
 abbrev pub given_in : List Refusal → ℕ → Bool
@@ -121,7 +120,7 @@ ByKind file =
 pub record Claims (file : List ℕ) : Type 0 where
   pub exactly : Exactly file
   pub by_kind : ByKind file
-  pub accepts : records_checked file ≡ Accepted → Accepts file
-  pub orders : records_checked file ≡ Accepted → Orders (records file)
+  pub accepts : records_checked file ≡ Ok tt → Accepts file
+  pub orders : records_checked file ≡ Ok tt → Orders (records file)
   -- what is accepted in all is lawful: every row has its rate, and its conversions are within the most
-  pub lawful : checked file ≡ Accepted → Lawful (records file)
+  pub lawful : checked file ≡ Ok tt → Lawful (records file)

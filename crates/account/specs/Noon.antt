@@ -1,6 +1,6 @@
 -- Request 2026-01: what a morning's file and a noon file are refused for before a question is put to the joined account.
 -- Assumes nothing.
-use Rattle.std.specs.Prelude.{ℕ, Bool, ◌&&◌, ◌||◌, cond, List, eqb, ltb, length}
+use Rattle.std.specs.Prelude.{ℕ, Bool, ◌&&◌, ◌||◌, cond, List, eqb, ltb, length, Ok, Err}
 use Rattle.record.specs.Layout.{Record}
 use Rattle.exact.specs.Lists.{any}
 use Rattle.account.specs.Accepted.{listed}
@@ -11,8 +11,8 @@ use Rattle.account.specs.PartNumbers.{part, part_start, part_count}
 use Rattle.account.specs.Parts.{of_kind, place_of}
 use Rattle.account.specs.Records.{records, stretch}
 use Rattle.account.specs.Joined.{account_of}
-use Rattle.account.specs.declared.answers.Answer.{Answer}
-use Rattle.account.specs.declared.answers.Answer.TheVariants.{Accepted, NoonSpread, TooManyJoined}
+use Rattle.account.specs.Answers.{Answer}
+use Rattle.account.specs.declared.answers.Refusal.TheVariants.{NoonSpread, TooManyJoined}
 use Rattle.account.specs.declared.noon.Place.{Place}
 use Rattle.account.specs.declared.noon.Verdict.{Verdict}
 
@@ -39,11 +39,11 @@ abbrev pub mornings_own : Record → Bool
 mornings_own r = of_kind 5 r || of_kind 6 r
 
 abbrev pub no_spread : List ℕ → Answer
-no_spread noon = cond (any mornings_own (records noon)) (NoonSpread (place_of mornings_own (records noon))) Accepted
+no_spread noon = cond (any mornings_own (records noon)) (Err (NoonSpread (place_of mornings_own (records noon)))) (Ok tt)
 
 -- 13: "more than 640 records joined", "naming the joined record count"
 abbrev pub few_joined : ℕ → Answer
-few_joined n = cond (ltb most_records n) (TooManyJoined n) Accepted
+few_joined n = cond (ltb most_records n) (Err (TooManyJoined n)) (Ok tt)
 
 -- "Refusals: each file by 01's 1 to 9, morning first, saying which; then 12 ..; then .. 13"
 abbrev pub records_verdict : List ℕ → List ℕ → Verdict

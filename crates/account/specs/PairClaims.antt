@@ -1,7 +1,7 @@
 -- What request 2026-01 demands of a pair of files, as claims about the definitions `joined_verdict` and `joined_prompts`: each refusal
 -- is given exactly when the request says, the first in its order, and a contract's prompts are those of the joined account.
 -- Assumes nothing.
-use Rattle.std.specs.Prelude.{ℕ, ◌≤◌, ◌<◌, ◌≡◌, true, false, List, [], ◌⊎◌, length}
+use Rattle.std.specs.Prelude.{ℕ, ◌≤◌, ◌<◌, ◌≡◌, true, false, List, [], ◌⊎◌, length, Ok}
 use Rattle.record.specs.Layout.{most_contract}
 use Rattle.account.specs.Accepted.{listed, part_bytes}
 use Rattle.account.specs.Answers.{number_of, record_of}
@@ -13,7 +13,6 @@ use Rattle.account.specs.PartNumbers.{part}
 use Rattle.account.specs.Parts.{prompts_of}
 use Rattle.account.specs.Records.{records, record_at, record_count}
 use Rattle.account.specs.Joined.{account_of}
-use Rattle.account.specs.declared.answers.Answer.TheVariants.{Accepted}
 use Rattle.account.specs.declared.noon.Verdict.{Verdict}
 
 -- a verdict says refusal n and record k of a file: of the morning's, 1, the noon's, 2, or the joined account, 0
@@ -24,8 +23,8 @@ pub record Says (v : Verdict) (file n k : ℕ) : Type 0 where
 
 -- neither file is refused by 01
 pub record BothPass (morning noon : List ℕ) : Type 0 where
-  pub first : records_checked morning ≡ Accepted
-  pub second : records_checked noon ≡ Accepted
+  pub first : records_checked morning ≡ Ok tt
+  pub second : records_checked noon ≡ Ok tt
 
 -- "the noon file has kind 5, at its first such record"; or kind 6
 pub record FirstSpread (noon : List ℕ) (k : ℕ) : Type 0 where
@@ -40,7 +39,7 @@ pub record NoSpread (noon : List ℕ) : Type 0 where
 -- 640 records joined"; 2026-05: then 14 and 15, "naming the joined record"
 pub record PairExactly (morning noon : List ℕ) : Type 0 where
   pub of_morning : (n k : ℕ) → 1 ≤ n → n ≤ 9 → Iff (Says (joined_verdict morning noon) 1 n k) (RecordsGive morning n k)
-  pub of_noon : (n k : ℕ) → 1 ≤ n → n ≤ 9 → Iff (Says (joined_verdict morning noon) 2 n k) ((records_checked morning ≡ Accepted) × RecordsGive noon n k)
+  pub of_noon : (n k : ℕ) → 1 ≤ n → n ≤ 9 → Iff (Says (joined_verdict morning noon) 2 n k) ((records_checked morning ≡ Ok tt) × RecordsGive noon n k)
   pub twelve : (k : ℕ) → Iff (Says (joined_verdict morning noon) 2 12 k) (BothPass morning noon × FirstSpread noon k)
   pub thirteen : (k : ℕ) → Iff (Says (joined_verdict morning noon) 0 13 k)
       (BothPass morning noon × (NoSpread noon × ((most_records < length (account_of morning noon)) × (length (account_of morning noon) ≡ k))))

@@ -8,7 +8,7 @@ use Rattle.account.specs.Check.{most_contracts, records_checked}
 use Rattle.account.specs.Parts.{of_kind, of_contract, start_of}
 use Rattle.account.specs.Records.{records}
 use Rattle.account.specs.Answers.{number_of}
-use Rattle.account.specs.declared.answers.Answer.{Answer}
+use Rattle.account.specs.Answers.{Answer}
 
 -- the number of a part: by kind and contract, one for all intercontract spreads, and one for all currency rates
 abbrev pub part : ℕ → ℕ → ℕ

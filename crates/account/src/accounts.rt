@@ -12,9 +12,8 @@ ghost use Rattle.account.specs.code.Standing as Standing;
 ghost use Rattle.account.specs.code.Standing.{Places, Stands, PartOf, ContractPart, CheckedBy};
 ghost use Rattle.account.specs.code.Standing.{EitherTo, Flagged, listed_in, Numbered, JoinedBy, AloneBy};
 ghost use Rattle.account.specs.code.Surveyed.{Tallied};
-ghost use Rattle.account.specs.declared.answers.Answer.TheVariants.{Accepted};
 
-use crate::answers::{Answer, number_of, refusal};
+use crate::answers::{Refusal, number_of, refusal_of};
 use crate::check::{Survey, length_answer, note_file, note_records};
 use crate::conversions::rows_answer;
 use crate::notes::{note_at, noted, wide};
@@ -334,7 +333,7 @@ fn before_rows(account: Account) -> usize
 }
 
 // 14 and 15, "for rows in file order", of an account whose records are accepted.
-pub(crate) fn conversions_answer<'a>(morning: &'a [u8], noon: &'a [u8], account: Account) -> Answer
+pub(crate) fn conversions_answer<'a>(morning: &'a [u8], noon: &'a [u8], account: Account) -> Result<(), Refusal>
     requires { Places morning.now noon.now account × Recorded (account_of morning.now noon.now) }
     ensures { result ≡ rates_checked (account_of morning.now noon.now) }
 {
@@ -350,7 +349,7 @@ pub(crate) fn conversions_answer<'a>(morning: &'a [u8], noon: &'a [u8], account:
         k += record_count(rows);
         c += 1;
     }
-    Answer::Accepted
+    Ok(())
 }
 
 // The same of one file, by what is noted of it.
@@ -360,21 +359,21 @@ fn rates_answer(
     counts: &[u16; PARTS],
     contracts: usize,
     converts: bool,
-) -> Answer
-    requires { Tallied file.now Accepted contracts converts first.now counts.now }
+) -> Result<(), Refusal>
+    requires { Tallied file.now (Ok tt) contracts converts first.now counts.now }
     ensures { result ≡ checked file.now }
 {
     if converts {
         let account = in_one_file(first, counts, contracts, record_count(file));
         return conversions_answer(file, &file[..0], account);
     }
-    Answer::Accepted
+    Ok(())
 }
 
 // What the check of a file hands out: its answer, and of an accepted file the account.
 #[derive(Clone, Copy)]
 pub struct Checked {
-    pub answer: Answer,
+    pub answer: Result<(), Refusal>,
     pub account: Account,
 }
 
@@ -399,7 +398,7 @@ pub fn check_file(file: &[u8]) -> Checked
 }
 
 // The verdict on any bytes. It needs no account where all rows are in the margin currency.
-pub fn check(file: &[u8]) -> Answer
+pub fn check(file: &[u8]) -> Result<(), Refusal>
     ensures { result ≡ checked file.now }
 {
     let whole = anew(file);
@@ -411,7 +410,7 @@ pub fn check(file: &[u8]) -> Answer
     let mut counts = [0u16; PARTS];
     let noted = note_records(whole, &mut first, &mut counts);
     if noted.number != 0 {
-        return refusal(noted.number, noted.next);
+        return refusal_of(noted.number, noted.next);
     }
     rates_answer(whole, &first, &counts, noted.contracts, noted.converts)
 }

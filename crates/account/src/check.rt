@@ -10,9 +10,8 @@ ghost use Rattle.account.specs.Records.{record_count};
 ghost use Rattle.account.specs.Parts.{of_kind};
 ghost use Rattle.account.specs.code.Passing.{Notable, NotedTo, StepBy};
 ghost use Rattle.account.specs.code.Surveyed.{length_checked, Surveyed, Empty, Tallied};
-ghost use Rattle.account.specs.declared.answers.Answer.TheVariants.{Accepted};
 
-use crate::answers::{Answer, number_of, refusal};
+use crate::answers::{Refusal, number_of, refusal_of};
 use crate::conversions::is_other_row;
 use crate::fault::fault_at;
 use crate::notes::{noted, part_of};
@@ -31,14 +30,14 @@ const MOST_BYTES: usize = MOST_RECORDS * RECORD_BYTES;
 // and whether any row is in another currency than the margin's.
 #[derive(Clone, Copy)]
 pub struct Survey {
-    pub answer: Answer,
+    pub answer: Result<(), Refusal>,
     pub contracts: usize,
     pub first: [u16; PARTS],
     pub counts: [u16; PARTS],
     pub converts: bool,
 }
 
-fn refused(answer: Answer) -> Survey
+fn refused(answer: Result<(), Refusal>) -> Survey
     ensures { Empty answer result }
 {
     Survey {
@@ -146,7 +145,7 @@ pub(crate) fn note_records(
     first: &mut [u16; PARTS],
     counts: &mut [u16; PARTS],
 ) -> Steps
-    requires { (length_checked file.now ≡ Accepted) × ((first.old ≡ replicate parts 0) × (counts.old ≡ replicate parts 0)) }
+    requires { (length_checked file.now ≡ Ok tt) × ((first.old ≡ replicate parts 0) × (counts.old ≡ replicate parts 0)) }
     ensures tallied { Tallied file.now (refusal result.number result.next) result.contracts result.converts first.new
         counts.new }
     ensures named { (result.number ≡ 0 → ⊥) → number_of (refusal result.number result.next) ≡ result.number }
@@ -178,22 +177,22 @@ pub(crate) fn note_records(
 }
 
 // 1 and 2, of the length of a file.
-pub(crate) fn length_answer(file: &[u8]) -> Answer
+pub(crate) fn length_answer(file: &[u8]) -> Result<(), Refusal>
     ensures { result ≡ length_checked file.now }
 {
     if MOST_BYTES < file.len() {
-        return Answer::TooLong;
+        return Err(Refusal::TooLong);
     }
     if file.len() % RECORD_BYTES != 0 {
-        return Answer::CutRecord;
+        return Err(Refusal::CutRecord);
     }
-    Answer::Accepted
+    Ok(())
 }
 
 // A verdict, how many contracts were noted, and whether a row in another currency was.
 #[derive(Clone, Copy)]
 pub(crate) struct Tally {
-    pub answer: Answer,
+    pub answer: Result<(), Refusal>,
     pub contracts: usize,
     pub converts: bool,
 }
@@ -220,7 +219,7 @@ pub(crate) fn note_file(file: &[u8], first: &mut [u16; PARTS], counts: &mut [u16
         };
     }
     Tally {
-        answer: refusal(noted.number, noted.next),
+        answer: refusal_of(noted.number, noted.next),
         contracts: noted.contracts,
         converts: noted.converts,
     }

@@ -8,7 +8,7 @@ ghost use Rattle.account.specs.Conversions.{in_another, other_row, row_answer, R
 ghost use Rattle.account.specs.code.Rates.{RatesOf, HoldsRates};
 ghost use Rattle.account.specs.Records.{records};
 
-use crate::answers::{Answer, number_of};
+use crate::answers::{Refusal, number_of};
 use crate::rates::{Rates, conversion_beyond, has_rate};
 use crate::stretches::{record_count, whole_at};
 use record::fields::{currency, kind};
@@ -27,24 +27,24 @@ pub(crate) fn is_other_row(r: &[u8]) -> bool
 }
 
 // Of the row that is record `k`. A row in the margin currency gets neither.
-pub fn row_answer(t: Rates, row: &[u8], k: usize) -> Answer
+pub fn row_answer(t: Rates, row: &[u8], k: usize) -> Result<(), Refusal>
     requires { Row row.now × HoldsRates t }
     ensures { (rates : List Record) → RatesOf rates t → Each RateWithin rates → result ≡ row_answer rates k row.now }
 {
     if currency(row) == 0 {
-        return Answer::Accepted;
+        return Ok(());
     }
     if has_rate(t, row) {
         if conversion_beyond(t, row) {
-            return Answer::ConversionBeyond(k);
+            return Err(Refusal::ConversionBeyond(k));
         }
-        return Answer::Accepted;
+        return Ok(());
     }
-    Answer::NoRate(k)
+    Err(Refusal::NoRate(k))
 }
 
 // The first of the rows from record `k` on.
-pub(crate) fn rows_answer(t: Rates, rows: &[u8], k: usize) -> Answer
+pub(crate) fn rows_answer(t: Rates, rows: &[u8], k: usize) -> Result<(), Refusal>
     requires { Each Row (records rows.now) × (HoldsRates t × (k ≤ 65535)) }
     ensures { (rates : List Record) → RatesOf rates t → Each RateWithin rates → result ≡ first_rate_fault k rates (records rows.now) }
 {
@@ -57,5 +57,5 @@ pub(crate) fn rows_answer(t: Rates, rows: &[u8], k: usize) -> Answer
         }
         i += 1;
     }
-    Answer::Accepted
+    Ok(())
 }

@@ -7,7 +7,7 @@ ghost use Rattle.account.specs.code.Pair.{noon_spread, verdict_by, PairBy, place
 ghost use Rattle.account.specs.Noon.{joined_verdict, prompt_place, joined_prompts};
 
 use crate::accounts::{Account, conversions_answer, join, record_total, supplier};
-use crate::answers::{Answer, number_of};
+use crate::answers::{Refusal, number_of};
 use crate::check::{MOST_RECORDS, Survey, take_survey};
 use crate::parts::{CONTRACTS, ENTRIES, OWN, PROMPTS, RATES};
 use crate::stretches::stretch;
@@ -22,20 +22,20 @@ pub const NOON: usize = 2;
 #[derive(Clone, Copy)]
 pub struct Verdict {
     pub file: usize,
-    pub answer: Answer,
+    pub answer: Result<(), Refusal>,
 }
 
 // 12: "the noon file has kind 5, at its first such record", or kind 6.
-fn noon_spread(noon: Survey) -> Answer
+fn noon_spread(noon: Survey) -> Result<(), Refusal>
     ensures { result ≡ noon_spread noon }
 {
     if noon.counts[ENTRIES] != 0 {
-        return Answer::NoonSpread(noon.first[ENTRIES] as usize);
+        return Err(Refusal::NoonSpread(noon.first[ENTRIES] as usize));
     }
     if noon.counts[RATES] != 0 {
-        return Answer::NoonSpread(noon.first[RATES] as usize);
+        return Err(Refusal::NoonSpread(noon.first[RATES] as usize));
     }
-    Answer::Accepted
+    Ok(())
 }
 
 // "Each file by 01's 1 to 9, morning first, saying which; then 12 ..; then, naming the joined record count, 13".
@@ -66,12 +66,12 @@ fn verdict_of(morning: Survey, noon: Survey, records: usize) -> Verdict
     if MOST_RECORDS < records {
         return Verdict {
             file: JOINED,
-            answer: Answer::TooManyJoined(records),
+            answer: Err(Refusal::TooManyJoined(records)),
         };
     }
     Verdict {
         file: JOINED,
-        answer: Answer::Accepted,
+        answer: Ok(()),
     }
 }
 
@@ -106,7 +106,7 @@ fn pair_verdict<'a>(
     }
     Verdict {
         file: JOINED,
-        answer: Answer::Accepted,
+        answer: Ok(()),
     }
 }
 

@@ -2,11 +2,11 @@
 #![tactic(auto)]
 
 use account::accounts::check;
-use account::answers::Answer;
+use account::answers::Refusal;
 use reading::input::{ROOM, called_alone, read_input};
 use reading::lines::print_refused;
 
-fn print_verdict(rt: &impl Print, answer: Answer) {
+fn print_verdict(rt: &impl Print, answer: Result<(), Refusal>) {
     if !print_refused(rt, answer) {
         let _ = println!(rt; "A");
     }

@@ -1,5 +1,6 @@
 -- The claims about the committee's figures, for any bytes, lengths and lent numbers.
 -- Assumes nothing.
+use Rattle.std.specs.Prelude.{Ok, Err}
 use Prim.Native.Nat.{ℕ, zero, suc, ◌+◌, ◌*◌, ◌/◌, ◌%◌, ◌≤◌, ◌<◌, ◌^◌, zero-le}
 use native.Mathlib.Nat.{div-add-mod', mod-lt, not-suc-le-zero, le_of_suc-le-suc}
 use native.Mathlib.Omega.{arith}
@@ -15,8 +16,8 @@ use Rattle.exact.specs.Lists.{cons_if, keep, any, one_if, sum}
 use Rattle.exact.proofs.Lists.{sum-map_add}
 use Rattle.record.specs.Bytes.{count_from}
 use Rattle.account.specs.Answers.{number_of, record_of}
-use Rattle.account.specs.declared.answers.Answer.{Answer}
-use Rattle.account.specs.declared.answers.Answer.TheVariants.{Accepted, TooFewNumbers, LengthsDiffer, TooManyAccounts}
+use Rattle.account.specs.Answers.{Answer}
+use Rattle.account.specs.declared.answers.Refusal.TheVariants.{TooFewNumbers, LengthsDiffer, TooManyAccounts}
 use Rattle.runs.proofs.RunLaws.{accounts_length}
 use Rattle.runs.specs.Runs.{accounts_of}
 use Rattle.committee.specs.Answered.{Answered, answered_account}
@@ -31,7 +32,7 @@ use Rattle.committee.proofs.Padded.{total_most, refusal_most}
 
 -- ---- the answer by its three tests
 abbrev cased : Bool → Bool → Bool → Answer
-cased many same few = cond many TooManyAccounts (cond (not same) LengthsDiffer (cond few (TooFewNumbers 0) Accepted))
+cased many same few = cond many (Err TooManyAccounts) (cond (not same) (Err LengthsDiffer) (cond few (Err (TooFewNumbers 0)) (Ok tt)))
 
 module _ (bytes lengths : List ℕ) (lent : ℕ) where
   abbrev answer : Answer

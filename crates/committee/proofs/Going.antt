@@ -1,5 +1,6 @@
 -- A run of accounts, gone over one after the other: the sums so far, where the next account stands, and what is answered.
 -- Assumes nothing.
+use Rattle.std.specs.Prelude.{Ok, Err}
 use Prim.Native.Nat.{ℕ, zero, suc, ◌+◌, ◌/◌, ◌%◌, ◌≤◌, ◌<◌, zero-le}
 use native.Mathlib.Decide.{dec_lt}
 use native.Mathlib.Omega.{arith}
@@ -16,8 +17,8 @@ use Rattle.exact.proofs.Lists.{get_d_map}
 use Rattle.exact.proofs.Tests.{one_at_most}
 use Rattle.record.specs.Bytes.{count_from}
 use Rattle.account.specs.Answers.{number_of}
-use Rattle.account.specs.declared.answers.Answer.{Answer}
-use Rattle.account.specs.declared.answers.Answer.TheVariants.{Accepted, TooFewNumbers, LengthsDiffer, TooManyAccounts}
+use Rattle.account.specs.Answers.{Answer}
+use Rattle.account.specs.declared.answers.Refusal.TheVariants.{TooFewNumbers, LengthsDiffer, TooManyAccounts}
 use Rattle.runs.proofs.RunLaws.{accounts_next, sum_next}
 use Rattle.committee.specs.Answered.{Answered, answered_account}
 use Rattle.committee.specs.Committee.{is_accepted, refusal_count, refusal_counts, total_number, had_credit, above_risk, committee}
@@ -231,7 +232,7 @@ module _ (bytes lengths : List ℕ) (out : List ℤ) where
   answer = committee_answer bytes lengths (length out)
 
   abbrev cased : Bool → Bool → Bool → Answer
-  cased many same few = cond many TooManyAccounts (cond (not same) LengthsDiffer (cond few (TooFewNumbers 0) Accepted))
+  cased many same few = cond many (Err TooManyAccounts) (cond (not same) (Err LengthsDiffer) (cond few (Err (TooFewNumbers 0)) (Ok tt)))
 
   pub record Told (r : Answer) (out' : List ℤ) : Type 0 where
     pub is : r ≡ answer
@@ -243,24 +244,24 @@ module _ (bytes lengths : List ℕ) (out : List ℤ) where
   told : (r : Answer) (out' : List ℤ) → answer ≡ r → out' ≡ cond (eqb (number_of r) 0) numbers out → Told r out'
   told r out' e f = record { is = sym e; out_is = f ∙ sym (ap (λ (a : Answer). cond (eqb (number_of a) 0) numbers out) e) }
 
-  pub many : most_accounts < length lengths → Told TooManyAccounts out
+  pub many : most_accounts < length lengths → Told (Err TooManyAccounts) out
   many h =
-      told TooManyAccounts out
+      told (Err TooManyAccounts) out
       (ap (λ (t : Bool). cased t (eqb (sum lengths) (length bytes)) (ltb (length out) committee_numbers)) (lt-ltb most_accounts (length lengths) h)) refl
 
   module _ (few : length lengths ≤ most_accounts) where
     not_many : ltb most_accounts (length lengths) ≡ false
     not_many = le-ltb most_accounts (length lengths) few
 
-    pub differ : eqb (sum lengths) (length bytes) ≡ false → Told LengthsDiffer out
-    differ e = told LengthsDiffer out (ap₂ (λ (t u : Bool). cased t u (ltb (length out) committee_numbers)) not_many e) refl
+    pub differ : eqb (sum lengths) (length bytes) ≡ false → Told (Err LengthsDiffer) out
+    differ e = told (Err LengthsDiffer) out (ap₂ (λ (t u : Bool). cased t u (ltb (length out) committee_numbers)) not_many e) refl
 
     module _ (same : eqb (sum lengths) (length bytes) ≡ true) where
       by_room : (v : Bool) → ltb (length out) committee_numbers ≡ v → answer ≡ cased false true v
       by_room v e = ap₂ (λ (t u : Bool). cased t u (ltb (length out) committee_numbers)) not_many same ∙ ap (cased false true) e
 
-      pub lacking : length out < committee_numbers → Told (TooFewNumbers 0) out
-      lacking h = told (TooFewNumbers 0) out (by_room true (lt-ltb (length out) committee_numbers h)) refl
+      pub lacking : length out < committee_numbers → Told (Err (TooFewNumbers 0)) out
+      lacking h = told (Err (TooFewNumbers 0)) out (by_room true (lt-ltb (length out) committee_numbers h)) refl
 
-      pub all : committee_numbers ≤ length out → (out' : List ℤ) → out' ≡ numbers → Told Accepted out'
-      all h out' e = told Accepted out' (by_room false (le-ltb (length out) committee_numbers h)) e
+      pub all : committee_numbers ≤ length out → (out' : List ℤ) → out' ≡ numbers → Told (Ok tt) out'
+      all h out' e = told (Ok tt) out' (by_room false (le-ltb (length out) committee_numbers h)) e

@@ -1,6 +1,7 @@
 -- The numbers that the question of an account's figures leaves in 129 zeros: within their bounds, and what they add is what the figures
 -- add. This is all that the committee's laws know of that question.
 -- Assumes nothing.
+use Rattle.std.specs.Prelude.{Ok}
 use Prim.Native.Nat.{ℕ, zero, suc, ◌+◌, ◌-◌, ◌*◌, ◌≤◌, ◌<◌, ◌^◌, zero-le}
 use native.Mathlib.Decide.{dec_lt}
 use native.Mathlib.Omega.{arith}
@@ -22,7 +23,6 @@ use Rattle.account.specs.Answers.{number_of}
 use Rattle.account.specs.Checked.{checked}
 use Rattle.account.specs.Parts.{contracts_of, prompts_of, rows_of, spreads_of, entries_of, rates_of}
 use Rattle.account.specs.Records.{records}
-use Rattle.account.specs.declared.answers.Answer.TheVariants.{Accepted}
 use Rattle.account.proofs.Claimed.{claimed}
 use Rattle.account.proofs.Alone.{lawful}
 use Rattle.account.proofs.NoonLaws.{accepted_only}
@@ -188,7 +188,7 @@ module _ (entries : List Record) (table : List Open) where
   eights-length [] = refl
   eights-length (k ∷ ks) = let rest = eights-length ks in omega arith
 
-module _ (account : List ℕ) (ok : checked account ≡ Accepted) where
+module _ (account : List ℕ) (ok : checked account ≡ Ok tt) where
   abbrev rs : List Record
   rs = records account
 
@@ -280,7 +280,7 @@ module _ (account : List ℕ) where
   abbrev refused : Bool → List ℤ
   refused t = cond t (numbers ++ drop (length numbers) zeros) zeros
 
-  was_accepted : is_accepted (answered_account account) ≡ true → checked account ≡ Accepted
+  was_accepted : is_accepted (answered_account account) ≡ true → checked account ≡ Ok tt
   was_accepted e =
       accepted_only (checked account) (ap number_of (sym (verdict account)) ∙ eqb-true (number_of (figures_answer account longest_figures)) 0 e)
 

@@ -1,12 +1,12 @@
 -- Request 2026-12, 'Figures for the risk committee': one list of numbers over a run of accounts, from the figures of each.
 -- Assumes nothing.
-use Rattle.std.specs.Prelude.{ℕ, zero, suc, ◌+◌, ◌*◌, ◌/◌, ◌%◌, max, Bool, cond, not, ◌&&◌, List, [], ◌∷◌, ◌++◌, map, eqb, ltb, ℤ, pos, length, get_or, drop}
+use Rattle.std.specs.Prelude.{ℕ, zero, suc, ◌+◌, ◌*◌, ◌/◌, ◌%◌, max, Bool, cond, not, ◌&&◌, List, [], ◌∷◌, ◌++◌, map, eqb, ltb, ℤ, pos, length, get_or, drop, Ok, Err}
 use Rattle.exact.specs.Lists.{one_if, count, sum}
 use Rattle.exact.specs.Signed.{or_zero}
 use Rattle.record.specs.Bytes.{count_from}
 use Rattle.account.specs.Answers.{number_of}
-use Rattle.account.specs.declared.answers.Answer.{Answer}
-use Rattle.account.specs.declared.answers.Answer.TheVariants.{Accepted, TooFewNumbers, LengthsDiffer, TooManyAccounts}
+use Rattle.account.specs.Answers.{Answer}
+use Rattle.account.specs.declared.answers.Refusal.TheVariants.{TooFewNumbers, LengthsDiffer, TooManyAccounts}
 use Rattle.formulas.specs.Margin.{risk}
 use Rattle.formulas.specs.Bounds.{figures_each}
 use Rattle.runs.specs.Runs.{accounts_of}
@@ -157,9 +157,9 @@ most_accounts = 100
 -- "Refusals: as 2026-08, 10 being for this answer; 19, more than 100 accounts, first."
 abbrev pub committee_answer : List ℕ → List ℕ → ℕ → Answer
 committee_answer bytes lengths lent =
-    cond (ltb most_accounts (length lengths)) TooManyAccounts
-    (cond (not (eqb (sum lengths) (length bytes))) LengthsDiffer
-    (cond (ltb lent committee_numbers) (TooFewNumbers 0) Accepted))
+    cond (ltb most_accounts (length lengths)) (Err TooManyAccounts)
+    (cond (not (eqb (sum lengths) (length bytes))) (Err LengthsDiffer)
+    (cond (ltb lent committee_numbers) (Err (TooFewNumbers 0)) (Ok tt)))
 
 abbrev pub answered_run : List ℕ → List ℕ → List Answered
 answered_run bytes lengths = map answered_account (accounts_of lengths bytes)

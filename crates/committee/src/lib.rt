@@ -10,7 +10,7 @@ ghost use Rattle.committee.specs.Committee.{committee_answer, after_committee};
 
 use crate::figures::answer_account;
 use crate::sums::{none, put_sums, with_account};
-use account::answers::Answer;
+use account::answers::Refusal;
 use runs::add_up;
 
 // The most accounts of a run.
@@ -24,19 +24,19 @@ const NUMBERS: usize = 24;
 // that holds it; how many have credit; how many contracts have a short option minimum above the risk that it is compared with; the
 // mean margin and its remainder. The run is refused as a whole with 19 where there are more than 100 accounts, then with 17 where the
 // lengths do not add up to what is lent, then with 10 where numbers are lacking: then nothing is written.
-pub fn answer_committee(accounts: &[u8], lengths: &[usize], out: &mut [i64]) -> Answer
+pub fn answer_committee(accounts: &[u8], lengths: &[usize], out: &mut [i64]) -> Result<(), Refusal>
     ensures { (result ≡ committee_answer accounts.now lengths.now (length out.old))
         × (out.new ≡ after_committee accounts.now lengths.now out.old) }
 {
     let count = lengths.len();
     if MOST_ACCOUNTS < count {
-        return Answer::TooManyAccounts;
+        return Err(Refusal::TooManyAccounts);
     }
     if !add_up(lengths, accounts.len()) {
-        return Answer::LengthsDiffer;
+        return Err(Refusal::LengthsDiffer);
     }
     if out.len() < NUMBERS {
-        return Answer::TooFewNumbers(0);
+        return Err(Refusal::TooFewNumbers(0));
     }
     let mut sums = none();
     let mut at = 0;
@@ -50,5 +50,5 @@ pub fn answer_committee(accounts: &[u8], lengths: &[usize], out: &mut [i64]) -> 
         i += 1;
     }
     put_sums(sums, out);
-    Answer::Accepted
+    Ok(())
 }

@@ -3,7 +3,7 @@
 -- touched, the table of paired scenarios, what holds of a run of accounts, of the committee's figures of it, of tickets, of a file of
 -- entries and of the order screen's calls, and that no promise leaves a choice. proofs/Roof.antt proves it of any bytes.
 -- Assumes nothing.
-use Rattle.std.specs.Prelude.{ℕ, ◌≡◌, Bool, true, List, ℤ, length}
+use Rattle.std.specs.Prelude.{ℕ, ◌≡◌, Bool, true, List, ℤ, length, Ok}
 use Rattle.std.specs.Borrow.{Bor}
 use Rattle.exact.specs.Fractions.{Fractions}
 use Rattle.exact.specs.Largest.{IsLargest}
@@ -26,8 +26,7 @@ use Rattle.account.specs.PairClaims.{PairClaims}
 use Rattle.account.specs.code.Rates.{RatesOf}
 use Rattle.account.specs.Records.{records, record_count}
 use Rattle.account.specs.Joined.{account_of}
-use Rattle.account.specs.declared.answers.Answer.{Answer}
-use Rattle.account.specs.declared.answers.Answer.TheVariants.{Accepted}
+use Rattle.account.specs.Answers.{Answer}
 use Rattle.account.specs.declared.noon.Place.{Place}
 use Rattle.account.specs.declared.noon.Verdict.{Verdict}
 use Rattle.account.specs.declared.rates.Rates.{Rates}
@@ -87,16 +86,16 @@ pub record OneFile (file : List ℕ) : Type 0 where
   -- "each refusal is given exactly when": the table of document 01
   pub exact : Claims file
   -- "For each accepted account and each spread table"
-  pub demand3 : checked file ≡ Accepted → Demanded (records file)
-  pub skipped : checked file ≡ Accepted → NoneSkipped (records file)
-  pub unpaired : checked file ≡ Accepted → NothingOpen (records file)
+  pub demand3 : checked file ≡ Ok tt → Demanded (records file)
+  pub skipped : checked file ≡ Ok tt → NoneSkipped (records file)
+  pub unpaired : checked file ≡ Ok tt → NothingOpen (records file)
   -- 2026-11: the number at the end of each delta book is the count of the takes, and within its bound
-  pub touched : checked file ≡ Accepted → TouchesCounted (records file)
+  pub touched : checked file ≡ Ok tt → TouchesCounted (records file)
   -- as many numbers as a question needs are enough, and fewer are 10
   pub needed : (question : Question)
       → Needed (if_accepted (checked file) (asked (records file) question)) (record_count file) (answer_to file question) (need_to file question)
   -- all questions at once: in the place of each stands what it writes there by itself
-  pub places : (paid : Bool) (lent : List ℤ) → all_to paid file (length lent) ≡ Accepted
+  pub places : (paid : Bool) (lent : List ℤ) → all_to paid file (length lent) ≡ Ok tt
       → EachPlace (width_of paid) (λ q. after_to file (question_of paid q)) lent (after_all_to paid file lent)
 
 -- ---- a pair of files, request 2026-01
@@ -112,7 +111,7 @@ pub record TwoFiles (morning noon : List ℕ) : Type 0 where
   pub needed : (question : Question)
       → Needed (joined_verdict morning noon then of_joined (asked (account_of morning noon) question)).answer (length (account_of morning noon))
       (λ lent. (joined_answer morning noon question lent).answer) (joined_need morning noon question)
-  pub places : (paid : Bool) (lent : List ℤ) → joined_all paid morning noon (length lent) ≡ of_joined Accepted
+  pub places : (paid : Bool) (lent : List ℤ) → joined_all paid morning noon (length lent) ≡ of_joined (Ok tt)
       → EachPlace (width_of paid) (λ q. after_joined morning noon (question_of paid q)) lent (after_joined_all paid morning noon lent)
 
 -- ---- a list of spreads that others send, request 2026-10

@@ -22,7 +22,7 @@ ghost use Rattle.felgotany.specs.code.Outcomes.{TellsAsked, TellsWritten};
 ghost use Rattle.tickets.specs.Asked.{tickets_in, asked_about, withdrawn_from};
 
 use account::accounts::check;
-use account::answers::{Answer, number_of, record_of};
+use account::answers::{Refusal, number_of, record_of};
 use account::noon::{Verdict, prompt_place};
 use committee::answer_committee;
 use lists::{judge, judge_joined};
@@ -44,7 +44,7 @@ pub struct Outcome {
     pub record: usize,
 }
 
-fn tell(answer: Answer) -> Outcome
+fn tell(answer: Result<(), Refusal>) -> Outcome
     ensures { Tells answer result }
 {
     Outcome {
@@ -380,15 +380,15 @@ pub struct ListOutcome {
     pub step: usize,
 }
 
-fn answer_in(judged: Judged) -> Answer
+fn answer_in(judged: Judged) -> Result<(), Refusal>
     ensures { result ≡ answer_in judged }
 {
     match judged {
         Judged::Refused(answer) => answer,
-        Judged::Right => Answer::Accepted,
-        Judged::MoreThanFormed(_) => Answer::Accepted,
-        Judged::LessThanFormed(_) => Answer::Accepted,
-        Judged::WrongUse(_) => Answer::Accepted,
+        Judged::Right => Ok(()),
+        Judged::MoreThanFormed(_) => Ok(()),
+        Judged::LessThanFormed(_) => Ok(()),
+        Judged::WrongUse(_) => Ok(()),
     }
 }
 
@@ -489,12 +489,12 @@ pub struct AddOutcome {
     pub named: usize,
 }
 
-fn add_refusal(added: Added) -> Answer
+fn add_refusal(added: Added) -> Result<(), Refusal>
     ensures { result ≡ add_refusal added }
 {
     match added {
         Added::Refused(answer) => answer,
-        Added::Holds(_) => Answer::Accepted,
+        Added::Holds(_) => Ok(()),
     }
 }
 
@@ -538,12 +538,12 @@ pub struct TotalOutcome {
     pub total: u64,
 }
 
-fn total_refusal(told: Told) -> Answer
+fn total_refusal(told: Told) -> Result<(), Refusal>
     ensures { result ≡ total_refusal told }
 {
     match told {
         Told::Refused(answer) => answer,
-        Told::Total(_) => Answer::Accepted,
+        Told::Total(_) => Ok(()),
     }
 }
 
@@ -587,13 +587,13 @@ pub struct LimitOutcome {
     pub total: u64,
 }
 
-fn limit_refusal(limited: Limited) -> Answer
+fn limit_refusal(limited: Limited) -> Result<(), Refusal>
     ensures { result ≡ limit_refusal limited }
 {
     match limited {
         Limited::Refused(answer) => answer,
-        Limited::Within(_) => Answer::Accepted,
-        Limited::Over(_) => Answer::Accepted,
+        Limited::Within(_) => Ok(()),
+        Limited::Over(_) => Ok(()),
     }
 }
 

@@ -1,5 +1,6 @@
 -- The claims about a list that is sent for an account: its steps are ones that the judging accepts.
 -- Assumes nothing.
+use Rattle.std.specs.Prelude.{Err}
 use Prim.Native.Nat.{ℕ}
 use native.Mathlib.Omega.{arith}
 use mathlib.Core.Bool.{Bool, true, false, cond}
@@ -17,7 +18,7 @@ use Rattle.account.specs.Noon.{joined_verdict}
 use Rattle.account.specs.Parts.{spreads_of, entries_of}
 use Rattle.account.specs.Records.{records}
 use Rattle.account.specs.Joined.{account_of}
-use Rattle.account.specs.declared.answers.Answer.TheVariants.{NoSuchQuestion, OtherCounts}
+use Rattle.account.specs.declared.answers.Refusal.TheVariants.{NoSuchQuestion, OtherCounts}
 use Rattle.account.proofs.Alone.{lawful}
 use Rattle.account.proofs.NoonLaws.{pair_lawful}
 use Rattle.judging.specs.Claims as judging
@@ -56,7 +57,7 @@ sound-steps account law question = go (eqb question table_question)
         steps-sound (map interprompt (spreads_of question account)) (spreads_sound interprompt (spreads_of question account) (λ k h. (w.each_spread k h).sound))
 
 -- only a list of other counts is refused with 18
-said_other : (v : Verdict) → said_of v ≡ Refused OtherCounts → v ≡ verdict.OtherCounts
+said_other : (v : Verdict) → said_of v ≡ Refused (Err OtherCounts) → v ≡ verdict.OtherCounts
 said_other verdict.Right e = absurd (let z : ◌≡◌ {A = ℕ} 0 1 = cc in omega arith)
 said_other (verdict.MoreThanFormed j) e = absurd (let z : ◌≡◌ {A = ℕ} 0 1 = cc in omega arith)
 said_other (verdict.LessThanFormed j) e = absurd (let z : ◌≡◌ {A = ℕ} 0 1 = cc in omega arith)
@@ -70,7 +71,7 @@ module _ (account : List Record) (law : Lawful account) (question sent : ℕ) (x
   of_account : (said : Judged) → said ≡ judged_over account question sent xs us → OfAccount account question sent xs us said
   of_account said is =
       record {
-        eleven = λ e. is ∙ ap (λ (t : Bool). cond t (said_of given) (Refused (NoSuchQuestion (length account)))) e;
+        eleven = λ e. is ∙ ap (λ (t : Bool). cond t (said_of given) (Refused (Err (NoSuchQuestion (length account))))) e;
         eighteen =
             λ e.
             record {
@@ -82,7 +83,7 @@ module _ (account : List Record) (law : Lawful account) (question sent : ℕ) (x
       }
     where
       judged : answered account question ≡ true → said ≡ said_of given
-      judged e = is ∙ ap (λ (t : Bool). cond t (said_of given) (Refused (NoSuchQuestion (length account)))) e
+      judged e = is ∙ ap (λ (t : Bool). cond t (said_of given) (Refused (Err (NoSuchQuestion (length account))))) e
 
       truth : judging.Claims (steps_for account question) (opens_for account question) sent xs us
       truth = claims (steps_for account question) (opens_for account question) (sound-steps account law question) sent xs us

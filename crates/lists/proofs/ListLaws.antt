@@ -1,5 +1,6 @@
 -- A list of spreads put to a checked file or to a checked pair: the refusal, or what the account says of it.
 -- Assumes nothing.
+use Rattle.std.specs.Prelude.{Ok}
 use Prim.Native.Nat.{ℕ}
 use mathlib.Core.Bool.{Bool, true, cond}
 use mathlib.Core.List.{List, []}
@@ -15,8 +16,7 @@ use Rattle.account.specs.Records.{records}
 use Rattle.account.specs.code.Standing.{Stands, CheckedBy}
 use Rattle.account.specs.Joined.{account_of}
 use Rattle.account.specs.declared.accounts.Checked.{Checked}
-use Rattle.account.specs.declared.answers.Answer.{Answer}
-use Rattle.account.specs.declared.answers.Answer.TheVariants.{Accepted}
+use Rattle.account.specs.Answers.{Answer}
 use Rattle.account.specs.declared.noon.CheckedPair.{CheckedPair}
 use Rattle.account.specs.declared.noon.Verdict.{Verdict}
 use Rattle.account.proofs.Alone.{passes}
@@ -39,7 +39,7 @@ module _ (question sent : ℕ) (xs us : List ℤ) where
         ap Refused by.answer_is ∙ sym (ap of (ne_eqb (number_of (checked file)) 0 (λ z. h (ap number_of by.answer_is ∙ z))))
 
     module _ (z : number_of r.answer ≡ 0) (none : List ℕ) (nothing : none ≡ []) where
-      ok : checked file ≡ Accepted
+      ok : checked file ≡ Ok tt
       ok = accepted_only (checked file) (ap number_of (sym by.answer_is) ∙ z)
 
       pub file_stands : Stands file none r.account

@@ -1,13 +1,13 @@
 -- What request 2026-10 asks of a list that is sent for an account, as claims about the definitions: the refusals in their order, each
 -- exactly when, and the claims about a verdict, in demand 3's words, of the question's own steps.
 -- Assumes nothing.
-use Rattle.std.specs.Prelude.{ℕ, ◌≡◌, true, false, List, ℤ, length}
+use Rattle.std.specs.Prelude.{ℕ, ◌≡◌, true, false, List, ℤ, length, Err}
 use Rattle.record.specs.Layout.{Record}
 use Rattle.account.specs.Checked.{checked}
 use Rattle.account.specs.Noon.{clear, joined_verdict}
 use Rattle.account.specs.Records.{records}
 use Rattle.account.specs.Joined.{account_of}
-use Rattle.account.specs.declared.answers.Answer.TheVariants.{NoSuchQuestion, OtherCounts}
+use Rattle.account.specs.declared.answers.Refusal.TheVariants.{NoSuchQuestion, OtherCounts}
 use Rattle.judging.specs.Claims as judging
 use Rattle.exact.specs.Iff.{Iff}
 use Rattle.judging.specs.Claims.{SameCounts}
@@ -22,9 +22,9 @@ use Rattle.lists.specs.Lists.{judged_to, of_pair, joined_judged}
 
 -- of an account that is accepted: 11, then 18, then a verdict that says the truth
 pub record OfAccount (account : List Record) (question sent : ℕ) (xs us : List ℤ) (said : Judged) : Type 0 where
-  pub eleven : answered account question ≡ false → said ≡ Refused (NoSuchQuestion (length account))
+  pub eleven : answered account question ≡ false → said ≡ Refused (Err (NoSuchQuestion (length account)))
   pub eighteen : answered account question ≡ true
-      → Iff (said ≡ Refused OtherCounts) (SameCounts (steps_for account question) (opens_for account question) sent xs us → ⊥)
+      → Iff (said ≡ Refused (Err OtherCounts)) (SameCounts (steps_for account question) (opens_for account question) sent xs us → ⊥)
   pub judged : answered account question ≡ true
       → said ≡ said_of (judged_list (steps_for account question) (opens_for account question) sent xs us)
   pub truth : answered account question ≡ true

@@ -1,12 +1,11 @@
 -- Request 2026-10, 'The clearing house's own spread list', over any bytes: what comes back for a list of spreads that others send.
 -- Assumes nothing.
-use Rattle.std.specs.Prelude.{ℕ, cond, List, ℤ}
+use Rattle.std.specs.Prelude.{ℕ, cond, List, ℤ, Ok}
 use Rattle.account.specs.Checked.{checked}
 use Rattle.account.specs.Noon.{clear, joined_verdict}
 use Rattle.account.specs.Records.{records}
 use Rattle.account.specs.Joined.{account_of}
-use Rattle.account.specs.declared.answers.Answer.{Answer}
-use Rattle.account.specs.declared.answers.Answer.TheVariants.{Accepted}
+use Rattle.account.specs.Answers.{Answer}
 use Rattle.margin.specs.Lists.{judged_over}
 use Rattle.margin.specs.Questions.{not_refused}
 use Rattle.margin.specs.declared.lists.Judged.{Judged}
@@ -31,10 +30,10 @@ joined_judged morning noon question sent numbers uses =
 -- less, 4 for a wrong use; and the step
 abbrev pub answer_in : Judged → Answer
 answer_in (Refused a) = a
-answer_in Right = Accepted
-answer_in (MoreThanFormed step) = Accepted
-answer_in (LessThanFormed step) = Accepted
-answer_in (WrongUse step) = Accepted
+answer_in Right = Ok tt
+answer_in (MoreThanFormed step) = Ok tt
+answer_in (LessThanFormed step) = Ok tt
+answer_in (WrongUse step) = Ok tt
 
 abbrev pub verdict_number : Judged → ℕ
 verdict_number (Refused a) = 0

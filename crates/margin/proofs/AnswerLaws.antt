@@ -1,5 +1,6 @@
 -- A question's book and uses go by its steps and by what they go over: the numbers that are made of them answer it.
 -- Assumes nothing.
+use Rattle.std.specs.Prelude.{Ok}
 use Prim.Native.Nat.{ℕ, ◌+◌, ◌*◌, ◌≤◌}
 use native.Mathlib.Nat.{le_trans, mul-le-mul_right}
 use native.Mathlib.Omega.{arith}
@@ -40,7 +41,6 @@ use Rattle.margin.specs.code.Numbers.{PromptsLent, SpreadsSigned, numbers_in}
 use Rattle.formulas.specs.code.Promised.{BookOf, BookRoom}
 use Rattle.margin.specs.code.Asked.{AskedBy, BookIs}
 use Rattle.margin.specs.declared.asking.Question.TheVariants.{Book}
-use Rattle.account.specs.declared.answers.Answer.TheVariants.{Accepted}
 use Rattle.margin.specs.Questions.{answer_over, after_over}
 use Rattle.formulas.specs.code.Sums.{interleaved}
 use Rattle.margin.specs.Uses.{uses, steps_for, opens_for}
@@ -247,7 +247,7 @@ module _ (part spreads : List ℕ) (nets : List ℤ) (ln : length nets ≡ promp
 -- a book that is written where it has room
 module _ (account : List Record) (question : ℕ) (ss : List (List Taker)) (ps : List Open) (out left : List ℤ) (is : BookIs account question ss ps)
     (room : length (book_by ss ps) ≤ length out) (e : left ≡ sets out 0 (book_by ss ps)) where
-  pub book-written : Answers Accepted left (answer_over account (Book question) (length out)) (book account question) out
+  pub book-written : Answers (Ok tt) left (answer_over account (Book question) (length out)) (book account question) out
   book-written =
       let enough : length (book account question) ≤ length out = omega (arith, ap length is.is) in
       accepted_with _ (book account question) out left (length (book account question)) (asked_many account (Book question) (length out) is.asked_is enough)

@@ -1,5 +1,6 @@
 -- The books and uses of the contracts in file order: each is written to its place, and the places between them stay as they are.
 -- Assumes nothing.
+use Rattle.std.specs.Prelude.{Ok, Err}
 use Prim.Native.Nat.{ℕ, zero, suc, ◌+◌, ◌*◌, ◌≤◌, ◌<◌}
 use native.Mathlib.Decide.{ℕ_discrete}
 use native.Mathlib.Omega.{arith}
@@ -15,8 +16,8 @@ use Rattle.exact.specs.Lists.{any}
 use Rattle.record.specs.Layout.{Record, contract}
 use Rattle.account.specs.Lawful.{Lawful}
 use Rattle.account.specs.Parts.{contracts_of, entries_of}
-use Rattle.account.specs.declared.answers.Answer.{Answer}
-use Rattle.account.specs.declared.answers.Answer.TheVariants.{Accepted, TooFewNumbers}
+use Rattle.account.specs.Answers.{Answer}
+use Rattle.account.specs.declared.answers.Refusal.TheVariants.{TooFewNumbers}
 use Rattle.account.specs.Check.{most_contracts}
 use Rattle.margin.specs.Books.{asks, answered, table_question}
 use Rattle.margin.specs.Places.{questions, at_place, after_each, lent_place, lent_each, question_of, width_of, after_all_over}
@@ -187,6 +188,6 @@ module _ (account : List Record) (paid : Bool) (lent left left' : List ℤ) (sam
       go (ltb (length lent) (wide * questions)) so_far (e ∙ ap (λ (k : ℕ). cond (ltb k (wide * questions)) left (table left)) same)
     where
       go : (t : Bool) → left ≡ cond t lent (after_each wide each most_contracts lent) → left' ≡ cond t left (table left)
-          → left' ≡ cond (not_refused (cond t (TooFewNumbers (length account)) Accepted)) (after_each wide each questions lent) lent
+          → left' ≡ cond (not_refused (cond t (Err (TooFewNumbers (length account))) (Ok tt))) (after_each wide each questions lent) lent
       go true p q = q ∙ p
       go false p q = q ∙ ap table p

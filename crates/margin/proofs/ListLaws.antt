@@ -1,5 +1,6 @@
 -- A list of spreads for a question: the steps that judge it are the question's own.
 -- Assumes nothing.
+use Rattle.std.specs.Prelude.{Err}
 use Prim.Native.Nat.{ℕ}
 use mathlib.Core.Bool.{Bool, true, false, cond}
 use mathlib.Core.List.{List}
@@ -7,7 +8,7 @@ use mathlib.Core.Path.{◌≡◌, sym, ap, ap₂, ◌∙◌}
 use lib.IntN.{ℤ}
 use lib.ListN.{length}
 use Rattle.record.specs.Layout.{Record}
-use Rattle.account.specs.declared.answers.Answer.TheVariants.{NoSuchQuestion}
+use Rattle.account.specs.declared.answers.Refusal.TheVariants.{NoSuchQuestion}
 use Rattle.judging.specs.Judged.{judged_list, judged}
 use Rattle.judging.specs.declared.Verdict.TheVariants.{OtherCounts}
 use Rattle.spread.specs.Accepted as given
@@ -23,9 +24,9 @@ use Rattle.margin.specs.code.Asking.{Asks}
 
 module _ (account : List Record) (question sent : ℕ) (xs us : List ℤ) where
   abbrev of : Bool → Judged
-  of b = cond b (said_of (judged_list (steps_for account question) (opens_for account question) sent xs us)) (Refused (NoSuchQuestion (length account)))
+  of b = cond b (said_of (judged_list (steps_for account question) (opens_for account question) sent xs us)) (Refused (Err (NoSuchQuestion (length account))))
 
-  pub list_not-asked : answered account question ≡ false → Refused (NoSuchQuestion (length account)) ≡ judged_over account question sent xs us
+  pub list_not-asked : answered account question ≡ false → Refused (Err (NoSuchQuestion (length account))) ≡ judged_over account question sent xs us
   list_not-asked e = sym (ap of e)
 
   pub list_asked : answered account question ≡ true → (a : Asking) → Asks (steps_for account question) (opens_for account question) a

@@ -1,5 +1,6 @@
 -- All questions at once, each in its place: what is written in one place leaves the others alone.
 -- Assumes nothing.
+use Rattle.std.specs.Prelude.{Ok, Err}
 use Prim.Native.Nat.{ℕ, zero, suc, ◌+◌, ◌-◌, ◌*◌, ◌≤◌, ◌<◌}
 use native.Mathlib.Decide.{ℕ_discrete}
 use native.Mathlib.Nat.{mul-suc, mul-le-mul_left}
@@ -15,8 +16,8 @@ use lib.ListN.{length, length-append, length-drop, take, drop, take-append-drop}
 use lib.Seq.{length-take-le, take_at, drop_at, take-append-le, drop-append-le, drop-append-add, drop-drop}
 use Rattle.record.specs.Layout.{Record}
 use Rattle.account.specs.Answers.{number_of}
-use Rattle.account.specs.declared.answers.Answer.{Answer}
-use Rattle.account.specs.declared.answers.Answer.TheVariants.{Accepted, TooFewNumbers}
+use Rattle.account.specs.Answers.{Answer}
+use Rattle.account.specs.declared.answers.Refusal.TheVariants.{TooFewNumbers}
 use Rattle.margin.specs.Books.{answered}
 use Rattle.margin.specs.Places.{questions, at_place, after_each, each_over, after_each_over, question_of, width_of, all_over, after_all_over, place, EachPlace}
 use Rattle.margin.specs.Questions.{not_refused, answers, numbers_for, answer_over, after_over}
@@ -70,7 +71,7 @@ module _ (width at : ℕ) (change : List ℤ → List ℤ) (keeps : (xs : List �
 -- ---- a question changes no length
 
 -- where 10 is not the answer, enough numbers are lent
-lent_enough : (need lent k : ℕ) (t : Bool) → ltb lent need ≡ t → number_of (cond t (TooFewNumbers k) Accepted) ≡ 0 → need ≤ lent
+lent_enough : (need lent k : ℕ) (t : Bool) → ltb lent need ≡ t → number_of (cond t (Err (TooFewNumbers k)) (Ok tt)) ≡ 0 → need ≤ lent
 lent_enough need lent k true e z = absurd (omega arith)
 lent_enough need lent k false e z = ltb-false lent need e
 
@@ -153,10 +154,10 @@ module _ (width : ℕ) (after : ℕ → List ℤ → List ℤ) (keeps : (q : ℕ
             at_before width (width * n) (after n) (keeps n) (after_each width after n lent) (room n g) (width * q) (ends q n l)
             ∙ before l
 
-  each_room : (account : List Record) (lent : ℕ) → each_over width account lent ≡ Accepted → width * questions ≤ lent
+  each_room : (account : List Record) (lent : ℕ) → each_over width account lent ≡ Ok tt → width * questions ≤ lent
   each_room account lent ok = lent_enough (width * questions) lent (length account) (ltb lent (width * questions)) refl (ap number_of ok)
 
-  pub each_place_lem : (account : List Record) (lent : List ℤ) → each_over width account (length lent) ≡ Accepted
+  pub each_place_lem : (account : List Record) (lent : List ℤ) → each_over width account (length lent) ≡ Ok tt
       → EachPlace width after lent (after_each_over width after account lent)
   each_place_lem account lent ok =
       let h = each_room account (length lent) ok in
@@ -167,7 +168,7 @@ module _ (width : ℕ) (after : ℕ → List ℤ → List ℤ) (keeps : (q : ℕ
         rest = ap (drop (width * questions)) e ∙ past lent h questions (width * questions) (omega arith) (omega arith);
       }
 
-pub all_places : (paid : Bool) (account : List Record) (lent : List ℤ) → all_over paid account (length lent) ≡ Accepted
+pub all_places : (paid : Bool) (account : List Record) (lent : List ℤ) → all_over paid account (length lent) ≡ Ok tt
     → EachPlace (width_of paid) (λ q. after_over account (question_of paid q)) lent (after_all_over paid account lent)
 all_places paid account lent = each_place_lem (width_of paid) (λ q. after_over account (question_of paid q))
     (λ q. keeps_length account (question_of paid q)) account lent

@@ -1,5 +1,6 @@
 -- What a question answers and leaves behind, by what the check, the question and the lent numbers say.
 -- Assumes nothing.
+use Rattle.std.specs.Prelude.{Ok, Err}
 use Prim.Native.Nat.{ℕ, suc, ◌+◌, ◌*◌, ◌≤◌, ◌<◌}
 use native.Mathlib.Omega.{arith}
 use mathlib.Core.Path.{◌≡◌, refl, sym, ap, ◌∙◌}
@@ -13,8 +14,8 @@ use Rattle.exact.proofs.Lists.{get_d_map}
 use Rattle.record.specs.Layout.{Record}
 use Rattle.account.specs.Answers.{number_of}
 use Rattle.account.specs.Parts.{contracts_of, entries_of}
-use Rattle.account.specs.declared.answers.Answer.{Answer}
-use Rattle.account.specs.declared.answers.Answer.TheVariants.{Accepted, TooFewNumbers, NoSuchQuestion}
+use Rattle.account.specs.Answers.{Answer}
+use Rattle.account.specs.declared.answers.Refusal.TheVariants.{TooFewNumbers, NoSuchQuestion}
 pub use Rattle.account.proofs.NoonLaws.{accepted_only}
 use Rattle.formulas.specs.Contract.{contracts, parts_in, as_tier}
 use Rattle.formulas.specs.Bounds.{figures_each}
@@ -30,16 +31,16 @@ use Rattle.margin.proofs.NumberLaws.{sets_front}
 pub if_refused : (a next : Answer) → (number_of a ≡ 0 → ⊥) → if_accepted a next ≡ a
 if_refused a next h = rw (ne_eqb (number_of a) 0 h)
 
-pub if_accepted_lem : (a next : Answer) → a ≡ Accepted → if_accepted a next ≡ next
+pub if_accepted_lem : (a next : Answer) → a ≡ Ok tt → if_accepted a next ≡ next
 if_accepted_lem a next e = ap (λ (x : Answer). cond (not_refused x) next x) e
 
 pub after_refused : (a : Answer) (numbers out : List ℤ) → (number_of a ≡ 0 → ⊥) → afterwards a numbers out ≡ out
 after_refused a numbers out h = rw (ne_eqb (number_of a) 0 h)
 
-pub too_few_lem : (account : List Record) (numbers : List ℤ) (lent : ℕ) → lent < length numbers → enough account numbers lent ≡ TooFewNumbers (length account)
+pub too_few_lem : (account : List Record) (numbers : List ℤ) (lent : ℕ) → lent < length numbers → enough account numbers lent ≡ Err (TooFewNumbers (length account))
 too_few_lem account numbers lent h = rw (lt-ltb lent (length numbers) h)
 
-pub as_many : (account : List Record) (numbers : List ℤ) (lent : ℕ) → length numbers ≤ lent → enough account numbers lent ≡ Accepted
+pub as_many : (account : List Record) (numbers : List ℤ) (lent : ℕ) → length numbers ≤ lent → enough account numbers lent ≡ Ok tt
 as_many account numbers lent h = rw (le-ltb lent (length numbers) h)
 
 -- an answer, and the lent numbers afterwards
@@ -50,25 +51,24 @@ pub refused_with : (a answer : Answer) (numbers out : List ℤ) → answer ≡ a
 refused_with a answer numbers out e h =
     (sym e, sym (ap (λ (x : Answer). afterwards x numbers out) e ∙ after_refused a numbers out h))
 
-pub accepted_with : (answer : Answer) (numbers out after : List ℤ) (n : ℕ) → answer ≡ Accepted → length numbers ≡ n → after ≡ numbers ++ drop n out
-    → Answers Accepted after answer numbers out
+pub accepted_with : (answer : Answer) (numbers out after : List ℤ) (n : ℕ) → answer ≡ Ok tt → length numbers ≡ n → after ≡ numbers ++ drop n out
+    → Answers (Ok tt) after answer numbers out
 accepted_with answer numbers out after n e l f =
     (sym e, f ∙ ap (λ (m : ℕ). numbers ++ drop m out) (sym l) ∙ sym (ap (λ (x : Answer). afterwards x numbers out) e))
 
 -- ---- a question: whether it may be asked, then whether enough numbers are lent
 
 module _ (account : List Record) (question : Question) (lent : ℕ) where
-  pub not-asked : answers account question ≡ false → answer_over account question lent ≡ NoSuchQuestion (length account)
-  not-asked e = ap (λ (t : Bool). if_accepted (cond t Accepted (NoSuchQuestion (length account))) (enough account (numbers_for account question) lent)) e
+  pub not-asked : answers account question ≡ false → answer_over account question lent ≡ (Err (NoSuchQuestion (length account)))
+  not-asked e = ap (λ (t : Bool). if_accepted (cond t (Ok tt) (Err (NoSuchQuestion (length account)))) (enough account (numbers_for account question) lent)) e
 
   pub then_enough : answers account question ≡ true → answer_over account question lent ≡ enough account (numbers_for account question) lent
-  then_enough e = ap (λ (t : Bool). if_accepted (cond t Accepted (NoSuchQuestion (length account))) (enough account (numbers_for account question) lent)) e
+  then_enough e = ap (λ (t : Bool). if_accepted (cond t (Ok tt) (Err (NoSuchQuestion (length account)))) (enough account (numbers_for account question) lent)) e
 
-  pub asked_few : answers account question ≡ true → lent < length (numbers_for account question) → answer_over account question lent ≡ TooFewNumbers
-      (length account)
+  pub asked_few : answers account question ≡ true → lent < length (numbers_for account question) → answer_over account question lent ≡ (Err (TooFewNumbers (length account)))
   asked_few e h = then_enough e ∙ too_few_lem account (numbers_for account question) lent h
 
-  pub asked_many : answers account question ≡ true → length (numbers_for account question) ≤ lent → answer_over account question lent ≡ Accepted
+  pub asked_many : answers account question ≡ true → length (numbers_for account question) ≤ lent → answer_over account question lent ≡ Ok tt
   asked_many e h = then_enough e ∙ as_many account (numbers_for account question) lent h
 
 -- ---- how many numbers the figures have
@@ -90,9 +90,9 @@ figures_front account out room =
 
 -- and where too few are lent they stay as they are
 pub figures_refused : (account : List Record) (out : List ℤ) (records : ℕ) → records ≡ length account → length out < length (figures account)
-    → Answers (TooFewNumbers records) out (answer_over account Figures (length out)) (figures account) out
+    → Answers (Err (TooFewNumbers records)) out (answer_over account Figures (length out)) (figures account) out
 figures_refused account out records n few =
-    refused_with (TooFewNumbers records) _ (figures account) out (asked_few account Figures (length out) refl few ∙ ap TooFewNumbers (sym n))
+    refused_with (Err (TooFewNumbers records)) _ (figures account) out (asked_few account Figures (length out) refl few ∙ ap (λ (n : ℕ). Err (TooFewNumbers n)) (sym n))
     (λ e. omega arith)
 
 -- ---- the total stands last in the figures

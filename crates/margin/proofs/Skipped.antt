@@ -1,5 +1,6 @@
 -- No accepted line is skipped: rows counted contract by contract, and lists gone through side by side.
 -- Assumes nothing.
+use Rattle.std.specs.Prelude.{Ok}
 use Prim.Native.Nat.{ℕ, zero, suc, ◌+◌, ◌-◌, ◌*◌, ◌≤◌}
 use native.Mathlib.Omega.{arith}
 use mathlib.Core.Path.{◌≡◌, refl, sym, ap, ap₂, ◌∙◌}
@@ -22,7 +23,6 @@ use Rattle.account.specs.Parts.{of_kind, of_contract, contracts_of, prompts_of, 
 use Rattle.account.specs.Records.{records}
 use Rattle.account.specs.Joined.{account_of}
 use Rattle.account.specs.Whole.{Whole}
-use Rattle.account.specs.declared.answers.Answer.TheVariants.{Accepted}
 use Rattle.account.proofs.Alone.{lawful}
 use Rattle.account.proofs.NoonLaws.{pair_lawful}
 use Rattle.account.proofs.Whole.{KindWithin, owners, owned_once, file_kinds, pair_kinds, whole_file, whole_pair}
@@ -251,7 +251,7 @@ none_skipped account law within whole =
     }
 
 -- of an accepted file, and of a pair of files that is not refused
-pub file_skips_none : (file : List ℕ) → checked file ≡ Accepted → NoneSkipped (records file)
+pub file_skips_none : (file : List ℕ) → checked file ≡ Ok tt → NoneSkipped (records file)
 file_skips_none file ok = none_skipped (records file) (lawful file ok) (file_kinds file ok) (whole_file file ok)
 
 pub pair_skips_none : (morning noon : List ℕ) → clear (joined_verdict morning noon) ≡ true → NoneSkipped (account_of morning noon)

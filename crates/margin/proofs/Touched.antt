@@ -1,5 +1,6 @@
 -- The takes of an account's steps are counted and bounded: its spreads and entries are ones that the spread steps accept.
 -- Assumes nothing.
+use Rattle.std.specs.Prelude.{Ok}
 use Prim.Native.Nat.{ℕ}
 use mathlib.Core.Path.{◌≡◌}
 use mathlib.Core.Bool.{true}
@@ -12,7 +13,6 @@ use Rattle.account.specs.Noon.{clear, joined_verdict}
 use Rattle.account.specs.Parts.{spreads_of, entries_of}
 use Rattle.account.specs.Records.{records}
 use Rattle.account.specs.Joined.{account_of}
-use Rattle.account.specs.declared.answers.Answer.TheVariants.{Accepted}
 use Rattle.account.proofs.Alone.{lawful}
 use Rattle.account.proofs.NoonLaws.{pair_lawful}
 use Rattle.spread.proofs.Touching.{touched}
@@ -38,7 +38,7 @@ touches_counted account law =
     }
 
 -- of an accepted file, and of a pair of files that is not refused
-pub file_touched : (file : List ℕ) → checked file ≡ Accepted → TouchesCounted (records file)
+pub file_touched : (file : List ℕ) → checked file ≡ Ok tt → TouchesCounted (records file)
 file_touched file ok = touches_counted (records file) (lawful file ok)
 
 pub pair_touched : (morning noon : List ℕ) → clear (joined_verdict morning noon) ≡ true → TouchesCounted (account_of morning noon)

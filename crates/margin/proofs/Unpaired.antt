@@ -1,5 +1,6 @@
 -- Nothing still open could have been paired: the spreads and entries of a lawful account are ones that the spread steps accept.
 -- Assumes nothing.
+use Rattle.std.specs.Prelude.{Ok}
 use Prim.Native.Nat.{ℕ}
 use mathlib.Core.Path.{◌≡◌}
 use mathlib.Core.Bool.{true}
@@ -12,7 +13,6 @@ use Rattle.account.specs.Noon.{clear, joined_verdict}
 use Rattle.account.specs.Parts.{spreads_of, entries_of}
 use Rattle.account.specs.Records.{records}
 use Rattle.account.specs.Joined.{account_of}
-use Rattle.account.specs.declared.answers.Answer.TheVariants.{Accepted}
 use Rattle.account.proofs.Alone.{lawful}
 use Rattle.account.proofs.NoonLaws.{pair_lawful}
 use Rattle.spread.proofs.Again.{nothing_to_pair}
@@ -44,7 +44,7 @@ nothing_open account law =
     }
 
 -- of an accepted file, and of a pair of files that is not refused
-pub file_unpaired : (file : List ℕ) → checked file ≡ Accepted → NothingOpen (records file)
+pub file_unpaired : (file : List ℕ) → checked file ≡ Ok tt → NothingOpen (records file)
 file_unpaired file ok = nothing_open (records file) (lawful file ok)
 
 pub pair_unpaired : (morning noon : List ℕ) → clear (joined_verdict morning noon) ≡ true → NothingOpen (account_of morning noon)

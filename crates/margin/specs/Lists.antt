@@ -1,8 +1,8 @@
 -- Request 2026-10, 'The clearing house's own spread list', for a question: what comes back for a list of spreads that others send.
 -- Assumes nothing.
-use Rattle.std.specs.Prelude.{ℕ, cond, List, ℤ, length}
+use Rattle.std.specs.Prelude.{ℕ, cond, List, ℤ, length, Err}
 use Rattle.record.specs.Layout.{Record}
-use Rattle.account.specs.declared.answers.Answer.TheVariants.{NoSuchQuestion}
+use Rattle.account.specs.declared.answers.Refusal.TheVariants.{NoSuchQuestion}
 use Rattle.account.specs.declared.answers.Answer.TheVariants as answer
 use Rattle.judging.specs.Judged.{judged_list}
 use Rattle.judging.specs.declared.Verdict.{Verdict}
@@ -24,4 +24,4 @@ said_of verdict.OtherCounts = Refused answer.OtherCounts
 abbrev pub judged_over : List Record → ℕ → ℕ → List ℤ → List ℤ → Judged
 judged_over account question sent numbers uses =
     cond (answered account question) (said_of (judged_list (steps_for account question) (opens_for account question) sent numbers uses))
-    (Refused (NoSuchQuestion (length account)))
+    (Refused (Err (NoSuchQuestion (length account))))

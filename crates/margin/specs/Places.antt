@@ -1,9 +1,9 @@
 -- All questions at once: each has a place of its own in the lent numbers, as wide as the longest answer.
 -- Assumes nothing.
-use Rattle.std.specs.Prelude.{ℕ, zero, suc, ◌+◌, ◌*◌, ◌<◌, ◌≡◌, Bool, cond, List, ◌++◌, ltb, ℤ, length, take, drop}
+use Rattle.std.specs.Prelude.{ℕ, zero, suc, ◌+◌, ◌*◌, ◌<◌, ◌≡◌, Bool, cond, List, ◌++◌, ltb, ℤ, length, take, drop, Ok, Err}
 use Rattle.record.specs.Layout.{Record}
-use Rattle.account.specs.declared.answers.Answer.{Answer}
-use Rattle.account.specs.declared.answers.Answer.TheVariants.{Accepted, TooFewNumbers}
+use Rattle.account.specs.Answers.{Answer}
+use Rattle.account.specs.declared.answers.Refusal.TheVariants.{TooFewNumbers}
 use Rattle.margin.specs.declared.asking.Question.{Question}
 use Rattle.margin.specs.declared.asking.Question.TheVariants.{Book, Uses}
 use Rattle.margin.specs.Books.{table_question}
@@ -31,7 +31,7 @@ after_each width after (suc n) lent = at_place width (width * n) (after n) (afte
 
 -- 10: fewer numbers lent than the places have
 abbrev pub each_over : ℕ → List Record → ℕ → Answer
-each_over width account lent = cond (ltb lent (width * questions)) (TooFewNumbers (length account)) Accepted
+each_over width account lent = cond (ltb lent (width * questions)) (Err (TooFewNumbers (length account))) (Ok tt)
 
 abbrev pub after_each_over : ℕ → (ℕ → List ℤ → List ℤ) → List Record → List ℤ → List ℤ
 after_each_over width after account lent =

@@ -1,11 +1,11 @@
 -- "Two questions: the figures, and the delta book": what an account answers, after its records, and what stands in the lent numbers
 -- afterwards. Of a delta book it can be asked too what each step takes of each prompt.
 -- Assumes nothing.
-use Rattle.std.specs.Prelude.{ℕ, Bool, true, cond, List, ◌++◌, length, drop, eqb, ltb, ℤ}
+use Rattle.std.specs.Prelude.{ℕ, Bool, true, cond, List, ◌++◌, length, drop, eqb, ltb, ℤ, Ok, Err}
 use Rattle.record.specs.Layout.{Record}
 use Rattle.account.specs.Answers.{number_of}
-use Rattle.account.specs.declared.answers.Answer.{Answer}
-use Rattle.account.specs.declared.answers.Answer.TheVariants.{Accepted, TooFewNumbers, NoSuchQuestion}
+use Rattle.account.specs.Answers.{Answer}
+use Rattle.account.specs.declared.answers.Refusal.TheVariants.{TooFewNumbers, NoSuchQuestion}
 use Rattle.margin.specs.declared.asking.Question.{Question}
 use Rattle.margin.specs.declared.asking.Question.TheVariants.{Figures, Book, Uses}
 use Rattle.margin.specs.Figures.{figures}
@@ -33,11 +33,11 @@ answers account (Uses question) = answered account question
 
 -- 11: "question neither a listed contract nor 16", naming the record count
 abbrev pub asked : List Record → Question → Answer
-asked account question = cond (answers account question) Accepted (NoSuchQuestion (length account))
+asked account question = cond (answers account question) (Ok tt) (Err (NoSuchQuestion (length account)))
 
 -- 10: "fewer numbers lent than the answer needs", naming the record count
 abbrev pub enough : List Record → List ℤ → ℕ → Answer
-enough account numbers lent = cond (ltb lent (length numbers)) (TooFewNumbers (length account)) Accepted
+enough account numbers lent = cond (ltb lent (length numbers)) (Err (TooFewNumbers (length account))) (Ok tt)
 
 -- "Order: .. then 11, then 10."
 abbrev pub answer_over : List Record → Question → ℕ → Answer

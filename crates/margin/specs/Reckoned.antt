@@ -1,12 +1,11 @@
 -- "Reckoned examples" of document 01, P1 to P10, those of requests 2026-03, 2026-04 and 2026-11 with their corners, where 2026-05
 -- converts and where 2026-09 rounds, one claim. Deltas and numbers of spreads stand in ten-thousandths, amounts in hundredths.
 -- Assumes nothing.
-use Rattle.std.specs.Prelude.{ℕ, ◌*◌, ◌≡◌, true, false, List, [], ◌∷◌, ◌++◌, map, ℤ, pos, negsuc, neg_ℤ, replicate}
+use Rattle.std.specs.Prelude.{ℕ, ◌*◌, ◌≡◌, true, false, List, [], ◌∷◌, ◌++◌, map, ℤ, pos, negsuc, neg_ℤ, replicate, Ok}
 use Rattle.record.specs.Layout.{Record}
 use Rattle.account.specs.Records.{records}
 use Rattle.account.specs.Checked.{checked}
 use Rattle.account.specs.Products.{in_hundredths, has_rate, conversion_beyond}
-use Rattle.account.specs.declared.answers.Answer.TheVariants.{Accepted}
 use Rattle.margin.specs.Entered.{contract_record, prompt_record, row_in, row_record, spread_record, entry_record, rate_record}
 use Rattle.formulas.specs.Scanning.{product, total, scanning_risk, active_scenario}
 use Rattle.formulas.specs.Charges.{spread_charge, prompt_charge}
@@ -276,7 +275,7 @@ pub record Reckoned : Type 0 where
 -- "it prints C 3 13 383250 0 400 0 1500 383650, T 383650", and (2026-09) the same at "0 and 1 both meaning one hundredth"; in whole yen
 -- the call's gain of 3,517.50 is 3,518
 pub record Printed : Type 0 where
-  pub accepted : checked (printed_at 0) ≡ Accepted
+  pub accepted : checked (printed_at 0) ≡ Ok tt
   pub prints : figures (records (printed_at 0)) ≡ map pos (3 ∷ 13 ∷ 383250 ∷ 0 ∷ 400 ∷ 0 ∷ 1500 ∷ 383650 ∷ 383650 ∷ [])
   pub at_one : figures (records (printed_at 1)) ≡ map pos (3 ∷ 13 ∷ 383250 ∷ 0 ∷ 400 ∷ 0 ∷ 1500 ∷ 383650 ∷ 383650 ∷ [])
   pub in_yen : figures (records (printed_at 100)) ≡ map pos (3 ∷ 13 ∷ 383200 ∷ 0 ∷ 400 ∷ 0 ∷ 1500 ∷ 383600 ∷ 383600 ∷ [])

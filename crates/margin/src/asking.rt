@@ -22,7 +22,7 @@ use crate::over::{TABLE, asking_over, figures_count, is_asked};
 use crate::positions::{Positions, asking_from};
 use crate::uses::{Asking, answer_uses};
 use account::accounts::{Account, prompts_part, rows_part, spreads_part};
-use account::answers::Answer;
+use account::answers::Refusal;
 use account::lent::{NOTES, contract_total, lend, part_total, record_total, whereabouts_of};
 use account::parts::{ENTRIES, PROMPTS, SPREADS};
 use formulas::rows::put_net_deltas;
@@ -38,7 +38,7 @@ pub enum Question {
 }
 
 // The numbers of a book at the front of `out`, of an account of so many records. A refusal writes nothing.
-fn answer_book(records: usize, asking: Asking, out: &mut [i64]) -> Answer
+fn answer_book(records: usize, asking: Asking, out: &mut [i64]) -> Result<(), Refusal>
     requires { sound asking.prompts asking.table ≡ true }
     ensures { (whole : List Record) (question : ℕ) → AskedBy whole question records asking
         → (result ≡ answer_over whole (Book question) (length out.old)) × (out.new ≡ after_over whole (Book question) out.old) }
@@ -46,14 +46,14 @@ fn answer_book(records: usize, asking: Asking, out: &mut [i64]) -> Answer
     let prompts = asking.prompts;
     let table = asking.table;
     if out.len() < book_count(prompts, table) {
-        return Answer::TooFewNumbers(records);
+        return Err(Refusal::TooFewNumbers(records));
     }
     put_asked(out, prompts, table);
-    Answer::Accepted
+    Ok(())
 }
 
 // A question's book, or who paid for what in it, by what it asks about.
-fn answer_asking(records: usize, asking: Asking, paid: bool, out: &mut [i64]) -> Answer
+fn answer_asking(records: usize, asking: Asking, paid: bool, out: &mut [i64]) -> Result<(), Refusal>
     requires { sound asking.prompts asking.table ≡ true }
     ensures { (whole : List Record) (question : ℕ) → AskedBy whole question records asking
         → (result ≡ answer_over whole (question_of paid question) (length out.old))
@@ -71,18 +71,18 @@ fn answer_figures<'a>(
     noon: &'a [u8],
     account: &[u16; NOTES],
     out: &mut [i64],
-) -> Answer
+) -> Result<(), Refusal>
     requires { Stands morning.now noon.now (account_in account.now) }
     ensures { (result ≡ answer_over (account_of morning.now noon.now) Figures (length out.old))
         × (out.new ≡ after_over (account_of morning.now noon.now) Figures out.old) }
 {
     if out.len() < figures_count(account) {
-        return Answer::TooFewNumbers(record_total(account));
+        return Err(Refusal::TooFewNumbers(record_total(account)));
     }
     let mut books = [0i64; 0];
     let mut uses = [0i64; 0];
     put_over(morning, noon, account, out, &mut books, &mut uses);
-    Answer::Accepted
+    Ok(())
 }
 
 // The book of a contract that is listed, by its records in the files.
@@ -92,7 +92,7 @@ fn answer_contract_book<'a>(
     account: &[u16; NOTES],
     c: usize,
     out: &mut [i64],
-) -> Answer
+) -> Result<(), Refusal>
     requires { Stands morning.now noon.now (account_in account.now)
         × ((c ≤ most_contract) × (answered (account_of morning.now noon.now) c ≡ true)) }
     ensures { (result ≡ answer_over (account_of morning.now noon.now) (Book c) (length out.old))
@@ -102,13 +102,13 @@ fn answer_contract_book<'a>(
     let prompts = prompts_part(morning, noon, w);
     let spreads = spreads_part(morning, noon, w);
     if out.len() < contract_count(prompts, spreads) {
-        return Answer::TooFewNumbers(record_total(account));
+        return Err(Refusal::TooFewNumbers(record_total(account)));
     }
     let rows = rows_part(morning, noon, w);
     let mut nets = [0i64; MOST_PROMPTS];
     put_net_deltas(&mut nets, prompts, rows);
     run_contract(out, prompts, &nets, spreads);
-    Answer::Accepted
+    Ok(())
 }
 
 fn answer_question<'a>(
@@ -118,13 +118,13 @@ fn answer_question<'a>(
     paid: bool,
     question: usize,
     out: &mut [i64],
-) -> Answer
+) -> Result<(), Refusal>
     requires { Stands morning.now noon.now (account_in account.now) }
     ensures { (result ≡ answer_over (account_of morning.now noon.now) (question_of paid question) (length out.old))
         × (out.new ≡ after_over (account_of morning.now noon.now) (question_of paid question) out.old) }
 {
     if !is_asked(account, question) {
-        return Answer::NoSuchQuestion(record_total(account));
+        return Err(Refusal::NoSuchQuestion(record_total(account)));
     }
     if !paid & (question != TABLE) {
         return answer_contract_book(morning, noon, account, question, out);
@@ -140,7 +140,7 @@ fn answer_lent<'a>(
     account: &[u16; NOTES],
     question: Question,
     out: &mut [i64],
-) -> Answer
+) -> Result<(), Refusal>
     requires { Stands morning.now noon.now (account_in account.now) }
     ensures { (result ≡ answer_over (account_of morning.now noon.now) question (length out.old))
         × (out.new ≡ after_over (account_of morning.now noon.now) question out.old) }
@@ -159,7 +159,7 @@ pub fn answer_over<'a>(
     account: Account,
     question: Question,
     out: &mut [i64],
-) -> Answer
+) -> Result<(), Refusal>
     requires { Stands morning.now noon.now account }
     ensures { (result ≡ answer_over (account_of morning.now noon.now) question (length out.old))
         × (out.new ≡ after_over (account_of morning.now noon.now) question out.old) }
@@ -175,20 +175,20 @@ fn figures_answer<'a>(
     account: &[u16; NOTES],
     positions: Positions,
     out: &mut [i64],
-) -> Answer
+) -> Result<(), Refusal>
     requires { Stands morning.now noon.now (account_in account.now) × Known (account_of morning.now noon.now) positions }
     ensures { (whole : List Record) → PositionsTell (account_of morning.now noon.now) positions whole
         → (result ≡ answer_over whole Figures (length out.old)) × (out.new ≡ after_over whole Figures out.old) }
 {
     if out.len() < figures_count(account) {
-        return Answer::TooFewNumbers(positions.records);
+        return Err(Refusal::TooFewNumbers(positions.records));
     }
     let mut books = [0i64; 0];
     let mut uses = [0i64; 0];
     put_from(
         morning, noon, account, positions, out, &mut books, &mut uses,
     );
-    Answer::Accepted
+    Ok(())
 }
 
 fn question_answer<'a>(
@@ -199,14 +199,14 @@ fn question_answer<'a>(
     paid: bool,
     question: usize,
     out: &mut [i64],
-) -> Answer
+) -> Result<(), Refusal>
     requires { Stands morning.now noon.now (account_in account.now) × Known (account_of morning.now noon.now) positions }
     ensures { (whole : List Record) → PositionsTell (account_of morning.now noon.now) positions whole
         → (result ≡ answer_over whole (question_of paid question) (length out.old))
         × (out.new ≡ after_over whole (question_of paid question) out.old) }
 {
     if !is_asked(account, question) {
-        return Answer::NoSuchQuestion(positions.records);
+        return Err(Refusal::NoSuchQuestion(positions.records));
     }
     let asking = asking_from(morning, noon, account, positions, question);
     answer_asking(positions.records, asking, paid, out)
@@ -220,7 +220,7 @@ fn answer_lent_from<'a>(
     positions: Positions,
     question: Question,
     out: &mut [i64],
-) -> Answer
+) -> Result<(), Refusal>
     requires { Stands morning.now noon.now (account_in account.now) × Known (account_of morning.now noon.now) positions }
     ensures { (whole : List Record) → PositionsTell (account_of morning.now noon.now) positions whole
         → (result ≡ answer_over whole question (length out.old)) × (out.new ≡ after_over whole question out.old) }
@@ -240,7 +240,7 @@ pub fn answer_from<'a>(
     positions: Positions,
     question: Question,
     out: &mut [i64],
-) -> Answer
+) -> Result<(), Refusal>
     requires { Stands morning.now noon.now account × Known (account_of morning.now noon.now) positions }
     ensures { (whole : List Record) → PositionsTell (account_of morning.now noon.now) positions whole
         → (result ≡ answer_over whole question (length out.old)) × (out.new ≡ after_over whole question out.old) }

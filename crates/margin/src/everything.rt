@@ -38,7 +38,7 @@ use crate::positions::Positions;
 use crate::tabled::{place_line, put_formed};
 use crate::uses::answer_uses;
 use account::accounts::{Account, own_part, prompts_part, rows_part, spreads_part};
-use account::answers::Answer;
+use account::answers::Refusal;
 use account::lent::{
     NOTES, contract_number, contract_total, lend, part, record_total, whereabouts_of,
 };
@@ -66,9 +66,9 @@ pub const ALL_USES: usize = LONGEST_USES * QUESTIONS;
 // What an account is answered that is asked for everything.
 #[derive(Clone, Copy)]
 pub struct Everything {
-    pub figures: Answer,
-    pub books: Answer,
-    pub uses: Answer,
+    pub figures: Result<(), Refusal>,
+    pub books: Result<(), Refusal>,
+    pub uses: Result<(), Refusal>,
 }
 
 // The book of a contract that was run, in its place where all places are lent.
@@ -609,13 +609,13 @@ fn lend_from<'a>(
 }
 
 // What is answered where so many numbers are needed and so many lent.
-fn lent_answer(records: usize, needed: usize, lent: usize) -> Answer
+fn lent_answer(records: usize, needed: usize, lent: usize) -> Result<(), Refusal>
     ensures { result ≡ lent_answer records needed lent }
 {
     if lent < needed {
-        return Answer::TooFewNumbers(records);
+        return Err(Refusal::TooFewNumbers(records));
     }
-    Answer::Accepted
+    Ok(())
 }
 
 // What everything is answered where so many numbers are needed for the figures, and so many lent for each.

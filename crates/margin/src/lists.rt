@@ -7,14 +7,14 @@ ghost use Rattle.margin.specs.Lists.{said_of, judged_over};
 
 use crate::over::{asking_over, is_asked};
 use account::accounts::Account;
-use account::answers::Answer;
+use account::answers::Refusal;
 use account::lent::{NOTES, lend, record_total};
 use judging::{Verdict, judge};
 
 // What comes back for a list: a refusal, or what is said of it. A step is named by its place, from 0.
 #[derive(Clone, Copy)]
 pub enum Judged {
-    Refused(Answer),
+    Refused(Result<(), Refusal>),
     Right,
     MoreThanFormed(usize),
     LessThanFormed(usize),
@@ -30,7 +30,7 @@ fn said_of(verdict: Verdict) -> Judged
         Verdict::MoreThanFormed(step) => Judged::MoreThanFormed(step),
         Verdict::LessThanFormed(step) => Judged::LessThanFormed(step),
         Verdict::WrongUse(step) => Judged::WrongUse(step),
-        Verdict::OtherCounts => Judged::Refused(Answer::OtherCounts),
+        Verdict::OtherCounts => Judged::Refused(Err(Refusal::OtherCounts)),
     }
 }
 
@@ -49,7 +49,7 @@ fn judge_lent<'a>(
     ensures { result ≡ judged_over (account_of morning.now noon.now) question sent numbers.now uses.now }
 {
     if !is_asked(account, question) {
-        return Judged::Refused(Answer::NoSuchQuestion(record_total(account)));
+        return Judged::Refused(Err(Refusal::NoSuchQuestion(record_total(account))));
     }
     let asking = asking_over(morning, noon, account, question);
     let prompts = asking.prompts;

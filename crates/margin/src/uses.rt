@@ -12,7 +12,7 @@ ghost use Rattle.margin.specs.code.Asked.{AskedBy};
 ghost use Rattle.margin.specs.code.Asking.{LeftBy};
 ghost use Rattle.margin.specs.declared.asking.Question.TheVariants.{Uses};
 
-use account::answers::Answer;
+use account::answers::Refusal;
 use spread::stepwise::step_over;
 use spread::{Delta, MOST_PROMPTS, Prompts, Spread, Table};
 
@@ -77,7 +77,7 @@ fn put_uses(out: &mut [i64], prompts: Prompts, table: Table)
 }
 
 // What each step takes of each prompt, at the front of `out`, of an account of so many records. A refusal writes nothing.
-pub(crate) fn answer_uses(records: usize, asking: Asking, out: &mut [i64]) -> Answer
+pub(crate) fn answer_uses(records: usize, asking: Asking, out: &mut [i64]) -> Result<(), Refusal>
     requires { sound asking.prompts asking.table ≡ true }
     ensures { (whole : List Record) (question : ℕ) → AskedBy whole question records asking
         → (result ≡ answer_over whole (Uses question) (length out.old)) × (out.new ≡ after_over whole (Uses question) out.old) }
@@ -85,8 +85,8 @@ pub(crate) fn answer_uses(records: usize, asking: Asking, out: &mut [i64]) -> An
     let prompts = asking.prompts;
     let table = asking.table;
     if out.len() < uses_count(prompts, table) {
-        return Answer::TooFewNumbers(records);
+        return Err(Refusal::TooFewNumbers(records));
     }
     put_uses(out, prompts, table);
-    Answer::Accepted
+    Ok(())
 }

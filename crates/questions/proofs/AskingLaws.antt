@@ -1,5 +1,6 @@
 -- What a question put to an account is answered: 11, then 10.
 -- Assumes nothing.
+use Rattle.std.specs.Prelude.{Ok, Err}
 use Prim.Native.Nat.{ℕ, ◌≤◌, ◌<◌}
 use native.Mathlib.Omega.{arith}
 use mathlib.Core.Path.{◌≡◌, refl, ap, subst⁻¹, ◌∙◌}
@@ -11,8 +12,8 @@ use lib.IntN.{ℤ}
 use lib.ListN.{length}
 use Rattle.record.specs.Layout.{Record}
 use Rattle.account.specs.Answers.{number_of, record_of}
-use Rattle.account.specs.declared.answers.Answer.{Answer}
-use Rattle.account.specs.declared.answers.Answer.TheVariants.{Accepted, TooFewNumbers, NoSuchQuestion}
+use Rattle.account.specs.Answers.{Answer}
+use Rattle.account.specs.declared.answers.Refusal.TheVariants.{TooFewNumbers, NoSuchQuestion}
 use Rattle.margin.specs.declared.asking.Question.{Question}
 use Rattle.margin.specs.Questions.{if_accepted, numbers_for, answers, enough, answer_over, afterwards}
 use Rattle.margin.proofs.QuestionLaws.{accepted_only, after_refused}
@@ -25,34 +26,34 @@ module _ (account : List Record) (question : Question) (lent : ℕ) where
   abbrev room : Answer
   room = enough account (numbers_for account question) lent
 
-  room_if : (t : Bool) → ltb lent many ≡ t → room ≡ cond t (TooFewNumbers (length account)) Accepted
-  room_if t e = ap (λ (b : Bool). cond b (TooFewNumbers (length account)) Accepted) e
+  room_if : (t : Bool) → ltb lent many ≡ t → room ≡ cond t (Err (TooFewNumbers (length account))) (Ok tt)
+  room_if t e = ap (λ (b : Bool). cond b (Err (TooFewNumbers (length account))) (Ok tt)) e
 
   given : Answer
   given = answer_over account question lent
 
-  given_if : (t : Bool) → answers account question ≡ t → given ≡ cond t room (NoSuchQuestion (length account))
+  given_if : (t : Bool) → answers account question ≡ t → given ≡ cond t room (Err (NoSuchQuestion (length account)))
   unfolding given
-  given_if t e = ap (λ (b : Bool). if_accepted (cond b Accepted (NoSuchQuestion (length account))) room) e ∙ go t
+  given_if t e = ap (λ (b : Bool). if_accepted (cond b (Ok tt) (Err (NoSuchQuestion (length account)))) room) e ∙ go t
     where
-      go : (b : Bool) → if_accepted (cond b Accepted (NoSuchQuestion (length account))) room ≡ cond b room (NoSuchQuestion (length account))
+      go : (b : Bool) → if_accepted (cond b (Ok tt) (Err (NoSuchQuestion (length account)))) room ≡ cond b room (Err (NoSuchQuestion (length account)))
       go true = refl
       go false = refl
 
   -- the three that there are
-  unasked : answers account question ≡ false → given ≡ NoSuchQuestion (length account)
+  unasked : answers account question ≡ false → given ≡ (Err (NoSuchQuestion (length account)))
   unasked a = given_if false a
 
-  few : answers account question ≡ true → lent < many → given ≡ TooFewNumbers (length account)
+  few : answers account question ≡ true → lent < many → given ≡ (Err (TooFewNumbers (length account)))
   few a h = given_if true a ∙ room_if true (lt-ltb lent many h)
 
-  full : answers account question ≡ true → many ≤ lent → given ≡ Accepted
+  full : answers account question ≡ true → many ≤ lent → given ≡ Ok tt
   full a h = given_if true a ∙ room_if false (le-ltb lent many h)
 
   -- one of them is given
-  by_cases : (P : Answer → Type 0) → (answers account question ≡ false → P (NoSuchQuestion (length account)))
-      → (answers account question ≡ true → lent < many → P (TooFewNumbers (length account)))
-      → (answers account question ≡ true → many ≤ lent → P Accepted) → P given
+  by_cases : (P : Answer → Type 0) → (answers account question ≡ false → P (Err (NoSuchQuestion (length account))))
+      → (answers account question ≡ true → lent < many → P (Err (TooFewNumbers (length account))))
+      → (answers account question ≡ true → many ≤ lent → P (Ok tt)) → P given
   by_cases P none less all = go (answers account question) refl (ltb lent many) refl
     where
       go : (t : Bool) → answers account question ≡ t → (u : Bool) → ltb lent many ≡ u → P given

@@ -1,5 +1,6 @@
 -- What a checked file answers: its refusal, or what the account answers that stands in it alone.
 -- Assumes nothing.
+use Rattle.std.specs.Prelude.{Ok}
 use Prim.Native.Nat.{ℕ, ◌≤◌, zero-le}
 use mathlib.Core.Path.{◌≡◌, sym, ap, ◌∙◌, subst}
 use mathlib.Core.Bool.{Bool, cond}
@@ -14,8 +15,7 @@ use Rattle.account.specs.Records.{records}
 use Rattle.account.specs.code.Standing.{Stands, CheckedBy}
 use Rattle.account.specs.Joined.{account_of}
 use Rattle.account.specs.declared.accounts.Checked.{Checked}
-use Rattle.account.specs.declared.answers.Answer.{Answer}
-use Rattle.account.specs.declared.answers.Answer.TheVariants.{Accepted}
+use Rattle.account.specs.Answers.{Answer}
 use Rattle.account.proofs.Alone.{passes}
 use Rattle.account.proofs.Places.{alone}
 use Rattle.margin.specs.declared.asking.Question.{Question}
@@ -52,7 +52,7 @@ module _ (file : List ℕ) (r : Checked) (by : CheckedBy file r) where
 
   -- ---- an accepted one
   module _ (z : number_of r.answer ≡ 0) (none : List ℕ) (nothing : none ≡ []) where
-    ok : checked file ≡ Accepted
+    ok : checked file ≡ Ok tt
     ok = accepted_only (checked file) (ap number_of (sym by.answer_is) ∙ z)
 
     pub file_stands : Stands file none r.account

@@ -1,6 +1,7 @@
 -- The three demands: 1 of any bytes, 2 of the definitions, 3 of every accepted account, whose spreads and entries are ones that
 -- the spread steps accept.
 -- Assumes nothing.
+use Rattle.std.specs.Prelude.{Ok}
 use Prim.Native.Nat.{ℕ, zero, suc, ◌≤◌}
 use native.Mathlib.Omega.{arith}
 use mathlib.Core.Path.{◌≡◌, refl, sym, ap, ◌∙◌}
@@ -17,8 +18,7 @@ use Rattle.account.specs.Noon.{clear, joined_verdict}
 use Rattle.account.specs.Joined.{account_of}
 use Rattle.account.specs.Parts.{entries_of, spreads_of}
 use Rattle.account.specs.Records.{records, record_count}
-use Rattle.account.specs.declared.answers.Answer.{Answer}
-use Rattle.account.specs.declared.answers.Answer.TheVariants.{Accepted}
+use Rattle.account.specs.Answers.{Answer}
 use Rattle.account.proofs.Claimed.{claimed}
 use Rattle.account.proofs.Alone.{lawful}
 use Rattle.account.proofs.NoonLaws.{accepted_only, pair_lawful}
@@ -54,14 +54,14 @@ module _ (file : List ℕ) (question : Question) (lent : ℕ) where
 
   -- a number that a refused file does not give is given exactly where the file is accepted and its account gives it
   gives : (n : ℕ) → ((number_of (checked file) ≡ 0 → ⊥) → number_of (checked file) ≡ n → ⊥)
-      → Iff (number_of (answer_to file question lent) ≡ n) ((checked file ≡ Accepted) × (number_of next ≡ n))
+      → Iff (number_of (answer_to file question lent) ≡ n) ((checked file ≡ Ok tt) × (number_of next ≡ n))
   gives n other =
       record {
         forth = λ e. go (number_of (checked file)) refl e;
         back = λ (ok, e). ap number_of (if_accepted_lem (checked file) next ok) ∙ e;
       }
     where
-      go : (k : ℕ) → number_of (checked file) ≡ k → number_of (answer_to file question lent) ≡ n → (checked file ≡ Accepted) × (number_of next ≡ n)
+      go : (k : ℕ) → number_of (checked file) ≡ k → number_of (answer_to file question lent) ≡ n → (checked file ≡ Ok tt) × (number_of next ≡ n)
       go zero z e =
           let ok = accepted_only (checked file) z in
           (ok, ap number_of (sym (if_accepted_lem (checked file) next ok)) ∙ e)
@@ -165,7 +165,7 @@ module _ (account : List Record) (law : Lawful account) where
       }
 
 -- of an accepted file, and of a pair of files that is not refused
-pub demanded_file : (file : List ℕ) → checked file ≡ Accepted → Demanded (records file)
+pub demanded_file : (file : List ℕ) → checked file ≡ Ok tt → Demanded (records file)
 demanded_file file ok = demanded (records file) (lawful file ok)
 
 pub demanded_joined : (morning noon : List ℕ) → clear (joined_verdict morning noon) ≡ true → Demanded (account_of morning noon)

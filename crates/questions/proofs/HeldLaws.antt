@@ -7,7 +7,7 @@ use lib.IntN.{ℤ}
 use lib.ListN.{length}
 use denote.Ref.{Bor}
 use Rattle.account.specs.code.Standing.{CheckedBy}
-use Rattle.account.specs.declared.answers.Answer.{Answer}
+use Rattle.account.specs.Answers.{Answer}
 use Rattle.account.proofs.OneJoined.{one_file_lem}
 use Rattle.margin.specs.declared.asking.Question.{Question}
 use Rattle.questions.specs.code.Held.{FromCheck}

@@ -1,5 +1,6 @@
 -- As many numbers as a question needs are enough, and fewer are refused with 10: over an account, a file and a pair of files.
 -- Assumes nothing.
+use Rattle.std.specs.Prelude.{Ok, Err}
 use Prim.Native.Nat.{ℕ, zero, suc}
 use native.Mathlib.Omega.{arith}
 use mathlib.Core.Path.{◌≡◌, refl, sym, ap, ◌∙◌}
@@ -13,8 +14,8 @@ use Rattle.account.specs.Checked.{checked}
 use Rattle.account.specs.Noon.{of_joined, clear, ◌then◌, joined_verdict}
 use Rattle.account.specs.Records.{records, record_count}
 use Rattle.account.specs.Joined.{account_of}
-use Rattle.account.specs.declared.answers.Answer.{Answer}
-use Rattle.account.specs.declared.answers.Answer.TheVariants.{Accepted, TooFewNumbers, NoSuchQuestion}
+use Rattle.account.specs.Answers.{Answer}
+use Rattle.account.specs.declared.answers.Refusal.TheVariants.{TooFewNumbers, NoSuchQuestion}
 use Rattle.account.specs.declared.noon.Verdict.{Verdict}
 use Rattle.account.proofs.NoonLaws.{stops, goes}
 use Rattle.account.proofs.Walk.{length_cut}
@@ -31,8 +32,8 @@ pub account_needed : (account : List Record) (question : Question)
     → Needed (asked account question) (length account) (answer_over account question) (need_over account question)
 account_needed account question = go (answers account question) refl
   where
-    asked_if : (t : Bool) → answers account question ≡ t → asked account question ≡ cond t Accepted (NoSuchQuestion (length account))
-    asked_if t e = ap (λ (b : Bool). cond b Accepted (NoSuchQuestion (length account))) e
+    asked_if : (t : Bool) → answers account question ≡ t → asked account question ≡ cond t (Ok tt) (Err (NoSuchQuestion (length account)))
+    asked_if t e = ap (λ (b : Bool). cond b (Ok tt) (Err (NoSuchQuestion (length account)))) e
 
     need_if : (t : Bool) → answers account question ≡ t → need_over account question ≡ cond t (length (numbers_for account question)) 0
     need_if t e = ap (λ (b : Bool). cond b (length (numbers_for account question)) 0) e
@@ -71,7 +72,7 @@ module _ (file : List ℕ) (question : Question) where
           let is = if_accepted_lem (checked file) in
           record {
             enough = λ lent h. is _ ok ∙ over.enough lent (omega (arith, n, h)) ∙ sym (is _ ok);
-            fewer = λ lent h. is _ ok ∙ over.fewer lent (omega (arith, n, h)) ∙ ap TooFewNumbers (length_cut (record_count file) file);
+            fewer = λ lent h. is _ ok ∙ over.fewer lent (omega (arith, n, h)) ∙ ap (λ (n : ℕ). Err (TooFewNumbers n)) (length_cut (record_count file) file);
           }
       go (suc k) e =
           let h : number_of (checked file) ≡ 0 → ⊥ = λ z. some (sym e ∙ z) in

@@ -1,5 +1,6 @@
 -- What a question over a pair of files answers and leaves behind, and the call.
 -- Assumes nothing.
+use Rattle.std.specs.Prelude.{Ok, Err}
 use Prim.Native.Nat.{ℕ, ◌+◌, ◌-◌, ◌≤◌, ◌<◌, zero-le}
 use mathlib.Core.Path.{◌≡◌, sym, ap, ◌∙◌}
 use mathlib.Core.Bool.{Bool, true, false, ◌&&◌, ◌||◌, cond, false≢true}
@@ -15,8 +16,8 @@ use Rattle.account.specs.Noon.{of_joined, clear, ◌then◌, joined_verdict}
 use Rattle.account.specs.code.Pair.{PairBy}
 use Rattle.account.specs.code.Standing.{Stands}
 use Rattle.account.specs.Joined.{account_of}
-use Rattle.account.specs.declared.answers.Answer.{Answer}
-use Rattle.account.specs.declared.answers.Answer.TheVariants.{Accepted, AmountOutside}
+use Rattle.account.specs.Answers.{Answer}
+use Rattle.account.specs.declared.answers.Refusal.TheVariants.{AmountOutside}
 use Rattle.account.specs.declared.noon.CheckedPair.{CheckedPair}
 use Rattle.account.specs.declared.noon.Verdict.{Verdict}
 use Rattle.account.proofs.NoonLaws.{stops, goes, joined_accepted}
@@ -65,7 +66,7 @@ module _ (morning noon : List ℕ) (r : CheckedPair) (by : PairBy morning noon r
     pub pair_stands : Stands morning noon r.account
     pair_stands = by.stands unrefused
 
-    pair_accepted : r.verdict ≡ of_joined Accepted
+    pair_accepted : r.verdict ≡ of_joined (Ok tt)
     pair_accepted = by.verdict_is ∙ joined_accepted morning noon unrefused
 
     pair_asked : (next : Verdict) → joined_verdict morning noon then next ≡ next
@@ -99,8 +100,8 @@ module _ (morning noon : List ℕ) (r : CheckedPair) (by : PairBy morning noon r
     due = cover_call (requirement account) (nat_abs last) (nat_abs threshold) (nat_abs collateral)
 
     amounts_if : (t : Bool) → outside ≡ t
-        → of_joined (amounts_within (length account) last threshold collateral) ≡ of_joined (cond t (AmountOutside (length account)) Accepted)
-    amounts_if t e = ap (λ (b : Bool). of_joined (cond b (AmountOutside (length account)) Accepted)) e
+        → of_joined (amounts_within (length account) last threshold collateral) ≡ of_joined (cond t (Err (AmountOutside (length account))) (Ok tt))
+    amounts_if t e = ap (λ (b : Bool). of_joined (cond b (Err (AmountOutside (length account))) (Ok tt))) e
 
     -- a refusal calls for nothing
     told : (v : Verdict) → call_verdict morning noon last threshold collateral ≡ v → (number_of v.answer ≡ 0 → ⊥)
@@ -116,16 +117,16 @@ module _ (morning noon : List ℕ) (r : CheckedPair) (by : PairBy morning noon r
     call_refused h = told r.verdict (pair_refused h _) h
 
     module _ (z : number_of r.verdict.answer ≡ 0) where
-      pub call_outside : outside ≡ true → (n : ℕ) → n ≡ r.account.records → (v : Verdict) → v ≡ of_joined (AmountOutside n)
+      pub call_outside : outside ≡ true → (n : ℕ) → n ≡ r.account.records → (v : Verdict) → v ≡ of_joined (Err (AmountOutside n))
           → record { verdict = v; amount = record { 0 = 0 } } ≡ joined_call morning noon last threshold collateral
       call_outside out n is v of =
-          let e = of ∙ ap (λ (k : ℕ). of_joined (AmountOutside k)) (is ∙ (pair_stands z).places.all) in
+          let e = of ∙ ap (λ (k : ℕ). of_joined (Err (AmountOutside k))) (is ∙ (pair_stands z).places.all) in
           told v (pair_asked z _ ∙ amounts_if true out ∙ sym e) (λ no. some (sym (ap (λ (w : Verdict). number_of w.answer) e) ∙ no))
 
       pub call_made : outside ≡ false → (a : Amount) → a.0 ≡ due
           → record { verdict = r.verdict; amount = a } ≡ joined_call morning noon last threshold collateral
       call_made in_range a d =
-          let e : call_verdict morning noon last threshold collateral ≡ of_joined Accepted = pair_asked z _ ∙ amounts_if false in_range in
+          let e : call_verdict morning noon last threshold collateral ≡ of_joined (Ok tt) = pair_asked z _ ∙ amounts_if false in_range in
           let q : cond (clear (call_verdict morning noon last threshold collateral)) due 0 ≡ due = ap (λ (v : Verdict). cond (clear v) due 0) e in
           λ i. record { verdict = (pair_accepted z ∙ sym e) i; amount = record { 0 = (d ∙ sym q) i } }
 

@@ -1,5 +1,6 @@
 -- Demand 1 over a pair of files: what comes after the pair's own verdict.
 -- Assumes nothing.
+use Rattle.std.specs.Prelude.{Ok, Err}
 use Prim.Native.Nat.{ℕ, ◌≤◌}
 use native.Mathlib.Omega.{arith}
 use mathlib.Core.Path.{◌≡◌, refl, sym, ap, subst⁻¹, ◌∙◌}
@@ -17,8 +18,8 @@ use Rattle.exact.specs.Iff.{Iff}
 use Rattle.account.specs.Noon.{of_joined, clear, ◌then◌, joined_verdict}
 use Rattle.account.specs.PairClaims.{OfMorning, OfNoon, OfJoined}
 use Rattle.account.specs.Joined.{account_of}
-use Rattle.account.specs.declared.answers.Answer.{Answer}
-use Rattle.account.specs.declared.answers.Answer.TheVariants.{Accepted, AmountOutside}
+use Rattle.account.specs.Answers.{Answer}
+use Rattle.account.specs.declared.answers.Refusal.TheVariants.{AmountOutside}
 use Rattle.account.specs.declared.noon.Verdict.{Verdict}
 use Rattle.account.proofs.NoonLaws.{stops, goes}
 use Rattle.account.proofs.PairClaimed.{pair_claimed, pair_saying}
@@ -119,8 +120,8 @@ module _ (morning noon : List ℕ) where
     abbrev amounts : Answer
     amounts = amounts_within (length account) last threshold collateral
 
-    amounts_if : (t : Bool) → outside ≡ t → amounts ≡ cond t (AmountOutside (length account)) Accepted
-    amounts_if t e = ap (λ (b : Bool). cond b (AmountOutside (length account)) Accepted) e
+    amounts_if : (t : Bool) → outside ≡ t → amounts ≡ cond t (Err (AmountOutside (length account))) (Ok tt)
+    amounts_if t e = ap (λ (b : Bool). cond b (Err (AmountOutside (length account))) (Ok tt)) e
 
     beyond : Iff (number_of amounts ≡ 21) (outside ≡ true)
     beyond = record { forth = λ e. go outside refl e; back = λ a. ap number_of (amounts_if true a) }

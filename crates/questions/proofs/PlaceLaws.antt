@@ -1,5 +1,6 @@
 -- All questions at once: in the place of each stands what the question by itself writes there.
 -- Assumes nothing.
+use Rattle.std.specs.Prelude.{Ok}
 use Prim.Native.Nat.{ℕ, zero, suc, ◌*◌}
 use mathlib.Core.Path.{◌≡◌, refl, sym, ap, ◌∙◌}
 use mathlib.Core.Bool.{Bool, true, false, cond}
@@ -12,8 +13,7 @@ use Rattle.account.specs.Checked.{checked}
 use Rattle.account.specs.Noon.{of_joined, clear, joined_verdict}
 use Rattle.account.specs.Records.{records}
 use Rattle.account.specs.Joined.{account_of}
-use Rattle.account.specs.declared.answers.Answer.{Answer}
-use Rattle.account.specs.declared.answers.Answer.TheVariants.{Accepted}
+use Rattle.account.specs.Answers.{Answer}
 use Rattle.account.specs.declared.noon.Verdict.{Verdict}
 use Rattle.account.proofs.NoonLaws.{stops, goes}
 use Rattle.account.proofs.AcceptedOnly.{some}
@@ -35,7 +35,7 @@ as-named width after after' lent left left' same e p =
 
 -- ---- of a file
 
-pub file_places : (paid : Bool) (file : List ℕ) (lent : List ℤ) → all_to paid file (length lent) ≡ Accepted
+pub file_places : (paid : Bool) (file : List ℕ) (lent : List ℤ) → all_to paid file (length lent) ≡ Ok tt
     → EachPlace (width_of paid) (λ q. after_to file (question_of paid q)) lent (after_all_to paid file lent)
 file_places paid file lent given = go (number_of (checked file)) refl
   where
@@ -54,7 +54,7 @@ file_places paid file lent given = go (number_of (checked file)) refl
 
 -- ---- of a pair of files
 
-pub pair_places : (paid : Bool) (morning noon : List ℕ) (lent : List ℤ) → joined_all paid morning noon (length lent) ≡ of_joined Accepted
+pub pair_places : (paid : Bool) (morning noon : List ℕ) (lent : List ℤ) → joined_all paid morning noon (length lent) ≡ of_joined (Ok tt)
     → EachPlace (width_of paid) (λ q. after_joined morning noon (question_of paid q)) lent (after_joined_all paid morning noon lent)
 pair_places paid morning noon lent given = go (clear (joined_verdict morning noon)) refl
   where

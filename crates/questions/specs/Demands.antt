@@ -1,7 +1,7 @@
 -- The three demands, as claims about the definitions, each under its words; proofs/Demands.antt proves them of any bytes. The code
 -- meets them where `check` (account), `answer` (src/plain.rt) and `held_answer` (src/held.rt) promise these definitions.
 -- Assumes nothing.
-use Rattle.std.specs.Prelude.{ℕ, ◌≤◌, ◌<◌, ◌≡◌, true, false, List, [], ◌∷◌, ◌++◌, map, ℤ, pos, length, drop}
+use Rattle.std.specs.Prelude.{ℕ, ◌≤◌, ◌<◌, ◌≡◌, true, false, List, [], ◌∷◌, ◌++◌, map, ℤ, pos, length, drop, Ok}
 use Rattle.account.specs.Answers.{number_of, record_of}
 use Rattle.record.specs.Layout.{Record, most_contract}
 use Rattle.account.specs.Checked.{checked}
@@ -10,8 +10,7 @@ use Rattle.account.specs.Claims.{Claims}
 use Rattle.account.specs.Orders.{Later}
 use Rattle.account.specs.Parts.{prompts_of, entries_of}
 use Rattle.account.specs.Records.{records, record_count}
-use Rattle.account.specs.declared.answers.Answer.{Answer}
-use Rattle.account.specs.declared.answers.Answer.TheVariants.{Accepted}
+use Rattle.account.specs.Answers.{Answer}
 use Rattle.spread.specs.Demand.{Demand3, FirstWords}
 use Rattle.spread.specs.Steps.{Open, Taker, numbers, used_of, unused_of}
 use Rattle.spread.specs.Touches.{touches}
@@ -41,19 +40,19 @@ pub record Asking (account : List Record) (question : Question) (lent : ℕ) : T
 -- put to a file
 pub record FileAsked (file : List ℕ) (question : Question) (lent : ℕ) : Type 0 where
   pub refused : (number_of (checked file) ≡ 0 → ⊥) → answer_to file question lent ≡ checked file
-  pub eleven : Iff (number_of (answer_to file question lent) ≡ 11) ((checked file ≡ Accepted) × (answers (records file) question ≡ false))
+  pub eleven : Iff (number_of (answer_to file question lent) ≡ 11) ((checked file ≡ Ok tt) × (answers (records file) question ≡ false))
   pub ten : Iff (number_of (answer_to file question lent) ≡ 10)
-      ((checked file ≡ Accepted) × ((answers (records file) question ≡ true) × (lent < length (numbers_for (records file) question))))
+      ((checked file ≡ Ok tt) × ((answers (records file) question ≡ true) × (lent < length (numbers_for (records file) question))))
   pub accepted : Iff (number_of (answer_to file question lent) ≡ 0)
-      ((checked file ≡ Accepted) × ((answers (records file) question ≡ true) × (length (numbers_for (records file) question) ≤ lent)))
+      ((checked file ≡ Ok tt) × ((answers (records file) question ≡ true) × (length (numbers_for (records file) question) ≤ lent)))
   pub named : 10 ≤ number_of (answer_to file question lent) → number_of (answer_to file question lent) ≤ 11
       → record_of (answer_to file question lent) ≡ record_count file
 
 -- the figures, which ask no question that could be another
 pub record FiguresAsked (file : List ℕ) (lent : ℕ) : Type 0 where
   pub refused : (number_of (checked file) ≡ 0 → ⊥) → figures_answer file lent ≡ checked file
-  pub ten : Iff (number_of (figures_answer file lent) ≡ 10) ((checked file ≡ Accepted) × (lent < length (figures (records file))))
-  pub accepted : Iff (number_of (figures_answer file lent) ≡ 0) ((checked file ≡ Accepted) × (length (figures (records file)) ≤ lent))
+  pub ten : Iff (number_of (figures_answer file lent) ≡ 10) ((checked file ≡ Ok tt) × (lent < length (figures (records file))))
+  pub accepted : Iff (number_of (figures_answer file lent) ≡ 0) ((checked file ≡ Ok tt) × (length (figures (records file)) ≤ lent))
   pub named : 10 ≤ number_of (figures_answer file lent) → number_of (figures_answer file lent) ≤ 11 → record_of (figures_answer file lent) ≡ record_count file
 
 -- "lent memory then stays untouched"; "Success writes the answer at the front and nothing after it."
@@ -72,7 +71,7 @@ pub record Demand1 (file : List ℕ) : Type 0 where
       → Lent (answer_to file question (length lent)) (numbers_for (records file) question) lent (after_to file question lent)
   pub untouched : (a : Answer) (answer lent : List ℤ) → (number_of a ≡ 0 → ⊥) → afterwards a answer lent ≡ lent
   -- "no accepted line is skipped"
-  pub skipped : checked file ≡ Accepted → NoneSkipped (records file)
+  pub skipped : checked file ≡ Ok tt → NoneSkipped (records file)
 
 -- ---- 2. "Every figure equals SPAN as published .., under 01's rounding and tie rules": what is published is said by the definitions
 -- of Scanning, Deltas, Charges, Pairs, Credit, Margin, Contract, Figures and Books; the reckoned examples fix them.
@@ -81,7 +80,7 @@ pub record Demand2 : Type 0 where
   pub reckoned : Reckoned
   pub printed : Printed
   -- "An empty file is an accepted account with total 0."
-  pub empty_accepted : checked [] ≡ Accepted
+  pub empty_accepted : checked [] ≡ Ok tt
   pub empty_total : figures (records []) ≡ pos 0 ∷ []
 
 -- ---- 3. "For each accepted account and each spread table"

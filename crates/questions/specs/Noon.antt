@@ -1,12 +1,12 @@
 -- Request 2026-01, "Noon against the morning": the questions over the joined account, and the call.
 -- Assumes nothing.
-use Rattle.std.specs.Prelude.{ℕ, ◌+◌, ◌-◌, Bool, ◌&&◌, ◌||◌, cond, List, ltb, ℤ, pos, nat_abs, length}
+use Rattle.std.specs.Prelude.{ℕ, ◌+◌, ◌-◌, Bool, ◌&&◌, ◌||◌, cond, List, ltb, ℤ, pos, nat_abs, length, Ok, Err}
 use Rattle.std.specs.Int.Signed.{lt_z}
 use Rattle.record.specs.Layout.{Record}
 use Rattle.account.specs.Noon.{of_joined, clear, ◌then◌, joined_verdict}
 use Rattle.account.specs.Joined.{account_of}
-use Rattle.account.specs.declared.answers.Answer.{Answer}
-use Rattle.account.specs.declared.answers.Answer.TheVariants.{Accepted, AmountOutside}
+use Rattle.account.specs.Answers.{Answer}
+use Rattle.account.specs.declared.answers.Refusal.TheVariants.{AmountOutside}
 use Rattle.account.specs.declared.noon.Verdict.{Verdict}
 use Rattle.questions.specs.declared.noon.Call.{Call}
 use Rattle.margin.specs.declared.asking.Question.{Question}
@@ -74,7 +74,7 @@ beyond_amount z = lt_z z (pos 0) || lt_z (pos most_amount) z
 
 abbrev pub amounts_within : ℕ → ℤ → ℤ → ℤ → Answer
 amounts_within n last threshold collateral =
-    cond ((beyond_amount last || beyond_amount threshold) || beyond_amount collateral) (AmountOutside n) Accepted
+    cond ((beyond_amount last || beyond_amount threshold) || beyond_amount collateral) (Err (AmountOutside n)) (Ok tt)
 
 abbrev pub call_verdict : List ℕ → List ℕ → ℤ → ℤ → ℤ → Verdict
 call_verdict morning noon last threshold collateral =

@@ -1,10 +1,10 @@
 -- "Two questions: the figures, and the delta book": what each answers over any bytes, and what stands in the lent numbers afterwards.
 -- Assumes nothing.
-use Rattle.std.specs.Prelude.{ℕ, ◌≤◌, ◌<◌, ◌≡◌, Bool, true, false, cond, List, length, ℤ}
+use Rattle.std.specs.Prelude.{ℕ, ◌≤◌, ◌<◌, ◌≡◌, Bool, true, false, cond, List, length, ℤ, Err}
 use Rattle.account.specs.Checked.{checked}
 use Rattle.account.specs.Records.{records}
-use Rattle.account.specs.declared.answers.Answer.{Answer}
-use Rattle.account.specs.declared.answers.Answer.TheVariants.{TooFewNumbers}
+use Rattle.account.specs.Answers.{Answer}
+use Rattle.account.specs.declared.answers.Refusal.TheVariants.{TooFewNumbers}
 use Rattle.margin.specs.declared.asking.Question.{Question}
 use Rattle.margin.specs.declared.asking.Question.TheVariants.{Figures, Book, Uses}
 use Rattle.margin.specs.Places.{all_over, after_all_over}
@@ -76,4 +76,4 @@ all_uses_after = after_all_to true
 
 pub record Needed (otherwise : Answer) (records : ℕ) (answer : ℕ → Answer) (need : ℕ) : Type 0 where
   pub enough : (lent : ℕ) → need ≤ lent → answer lent ≡ otherwise
-  pub fewer : (lent : ℕ) → lent < need → answer lent ≡ TooFewNumbers records
+  pub fewer : (lent : ℕ) → lent < need → answer lent ≡ Err (TooFewNumbers records)

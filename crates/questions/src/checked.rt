@@ -5,7 +5,7 @@ ghost use Rattle.margin.specs.Questions.{most_for};
 ghost use Rattle.questions.specs.Questions.{answer_to, after_to, need_to};
 
 use account::accounts::{Checked, nothing_of};
-use account::answers::{Answer, number_of};
+use account::answers::{Refusal, number_of};
 use margin::asking::{Question, answer_over, needed_over};
 
 // A question's answer, at the front of `out`. A refusal writes nothing.
@@ -14,7 +14,7 @@ pub(crate) fn answer_checked(
     checked: Checked,
     question: Question,
     out: &mut [i64],
-) -> Answer
+) -> Result<(), Refusal>
     requires { CheckedBy file.now checked }
     ensures { (result ≡ answer_to file.now question (length out.old))
         × (out.new ≡ after_to file.now question out.old) }

@@ -7,7 +7,7 @@ ghost use Rattle.questions.specs.Questions.{answer_to, after_to, need_to};
 
 use crate::checked::{answer_checked, needed_checked};
 use account::accounts::{Checked, check_file, nothing_of};
-use account::answers::{Answer, number_of};
+use account::answers::{Refusal, number_of};
 use margin::asking::Question;
 use margin::everything::everything_over;
 
@@ -30,9 +30,9 @@ pub fn hold<'a>(file: &'a [u8]) -> Held<'a>
 // What a file is answered that is asked for everything: its figures, the books of all questions, and their uses.
 #[derive(Clone, Copy)]
 pub struct Asked {
-    pub figures: Answer,
-    pub books: Answer,
-    pub uses: Answer,
+    pub figures: Result<(), Refusal>,
+    pub books: Result<(), Refusal>,
+    pub uses: Result<(), Refusal>,
 }
 
 // Everything that a checked file is asked for, its positions worked out once.
@@ -68,7 +68,7 @@ fn everything(
 }
 
 // A question's answer, of a held file.
-pub fn held_answer<'a>(h: Held<'a>, question: Question, out: &mut [i64]) -> Answer
+pub fn held_answer<'a>(h: Held<'a>, question: Question, out: &mut [i64]) -> Result<(), Refusal>
     requires { FromCheck h }
     ensures { (result ≡ answer_to h.entry.file.now question (length out.old))
         × (out.new ≡ after_to h.entry.file.now question out.old) }

@@ -7,7 +7,7 @@ ghost use Rattle.questions.specs.Noon.{joined_answer, after_joined, joined_need,
 ghost use Rattle.questions.specs.code.Held.{PairAllAnswered};
 
 use account::accounts::record_total;
-use account::answers::{Answer, number_of};
+use account::answers::{Refusal, number_of};
 use account::noon::{CheckedPair, JOINED, Verdict, check_pair};
 use exact::signed::{below, magnitude};
 use formulas::amount::Amount;
@@ -15,7 +15,7 @@ use margin::asking::{Question, answer_over, needed_over};
 use margin::everything::{everything_over, total_over};
 
 // An answer about the joined account.
-fn of_joined(answer: Answer) -> Verdict
+fn of_joined(answer: Result<(), Refusal>) -> Verdict
     ensures { result ≡ of_joined answer }
 {
     Verdict {
@@ -162,7 +162,7 @@ pub fn cover_call<'a>(
     let account = checked.account;
     if beyond_amount(last) | beyond_amount(threshold) | beyond_amount(collateral) {
         return Call {
-            verdict: of_joined(Answer::AmountOutside(record_total(account))),
+            verdict: of_joined(Err(Refusal::AmountOutside(record_total(account)))),
             amount: Amount(0),
         };
     }

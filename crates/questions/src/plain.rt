@@ -5,11 +5,11 @@ ghost use Rattle.questions.specs.Questions.{answer_to, after_to, need_to};
 
 use crate::checked::{answer_checked, needed_checked};
 use account::accounts::check_file;
-use account::answers::Answer;
+use account::answers::Refusal;
 use margin::asking::Question;
 
 // A question's answer, at the front of `out`. A refusal writes nothing.
-pub fn answer(file: &[u8], question: Question, out: &mut [i64]) -> Answer
+pub fn answer(file: &[u8], question: Question, out: &mut [i64]) -> Result<(), Refusal>
     ensures { (result ≡ answer_to file.now question (length out.old))
         × (out.new ≡ after_to file.now question out.old) }
 {

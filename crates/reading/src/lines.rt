@@ -3,7 +3,7 @@ ghost use Rattle.std.specs.Prelude.{◌≡◌, not, eqb};
 ghost use Rattle.account.specs.Answers.{number_of};
 
 use crate::numbers::number_at;
-use account::answers::{Answer, number_of, record_of};
+use account::answers::{Refusal, number_of, record_of};
 use account::parts::CONTRACTS;
 
 // How many numbers the figures have of a contract, and at most: of sixteen contracts, and the total.
@@ -45,7 +45,7 @@ pub fn print_total(rt: &impl Print, total: i64) {
 }
 
 // Writes `R`, the refusal and the record where an answer is a refusal, and says whether it is.
-pub fn print_refused(rt: &impl Print, answer: Answer) -> bool
+pub fn print_refused(rt: &impl Print, answer: Result<(), Refusal>) -> bool
     ensures { result ≡ not (eqb (number_of answer) 0) }
 {
     let number = number_of(answer);

@@ -1,5 +1,6 @@
 -- The claims about a run of accounts, for any bytes, lengths and lent numbers.
 -- Assumes nothing.
+use Rattle.std.specs.Prelude.{Ok, Err}
 use Prim.Native.Nat.{ℕ, ◌*◌, ◌≤◌, ◌<◌}
 use native.Mathlib.Omega.{arith}
 use mathlib.Core.Path.{◌≡◌, refl, sym, ap, ap₂, subst, ◌∙◌}
@@ -12,8 +13,8 @@ use lib.IntN.{ℤ}
 use lib.ListN.{length, drop}
 use Rattle.exact.specs.Lists.{sum}
 use Rattle.account.specs.Answers.{number_of, record_of}
-use Rattle.account.specs.declared.answers.Answer.{Answer}
-use Rattle.account.specs.declared.answers.Answer.TheVariants.{Accepted, TooFewNumbers, LengthsDiffer}
+use Rattle.account.specs.Answers.{Answer}
+use Rattle.account.specs.declared.answers.Refusal.TheVariants.{TooFewNumbers, LengthsDiffer}
 use Rattle.formulas.specs.Bounds.{longest_figures}
 use Rattle.margin.specs.Questions.{not_refused}
 use Rattle.questions.specs.Questions.{figures_answer, after_figures}
@@ -51,7 +52,7 @@ module _ (accounts figures outcomes : ℕ) where
 
 -- ---- the answer by its two tests
 abbrev cased : Bool → Bool → Answer
-cased s t = cond (not s) LengthsDiffer (cond t (TooFewNumbers 0) Accepted)
+cased s t = cond (not s) (Err LengthsDiffer) (cond t (Err (TooFewNumbers 0)) (Ok tt))
 
 module _ (bytes lengths : List ℕ) (figures outcomes : ℕ) where
   abbrev answer : Answer

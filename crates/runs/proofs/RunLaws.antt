@@ -1,5 +1,6 @@
 -- A run of accounts: its answer by cases, where each account stands, and that a question changes no length.
 -- Assumes nothing.
+use Rattle.std.specs.Prelude.{Ok, Err}
 use Prim.Native.Nat.{ℕ, zero, suc, ◌+◌, ◌*◌, ◌≤◌, ◌<◌, zero-le}
 use native.Mathlib.Nat.{le_of_suc-le-suc, not-suc-le-zero}
 use native.Mathlib.Omega.{arith}
@@ -15,8 +16,8 @@ use Rattle.exact.specs.Lists.{sum}
 use Rattle.account.specs.Answers.{number_of}
 use Rattle.account.specs.Checked.{checked}
 use Rattle.account.specs.Records.{records}
-use Rattle.account.specs.declared.answers.Answer.{Answer}
-use Rattle.account.specs.declared.answers.Answer.TheVariants.{Accepted, TooFewNumbers, LengthsDiffer}
+use Rattle.account.specs.Answers.{Answer}
+use Rattle.account.specs.declared.answers.Refusal.TheVariants.{TooFewNumbers, LengthsDiffer}
 use Rattle.account.proofs.Alone.{lawful}
 use Rattle.account.proofs.NoonLaws.{accepted_only}
 use Rattle.formulas.specs.Bounds.{longest_figures}
@@ -32,7 +33,7 @@ use Rattle.runs.specs.Runs.{accounts_of, outcome_numbers, outcome_of, too_few, r
 use Rattle.runs.proofs.PlaceLaws.{ToGo, start, next, next_length, finish}
 
 -- ---- the numbers of a place are enough for every account
-figures_fit : (account : List ℕ) → checked account ≡ Accepted → length (figures (records account)) ≤ longest_figures
+figures_fit : (account : List ℕ) → checked account ≡ Ok tt → length (figures (records account)) ≤ longest_figures
 figures_fit account ok =
     let n = figures-length (records account) in
     let k = (lawful account ok).limits.contracts in
@@ -45,7 +46,7 @@ verdict account = go (not_refused (checked account)) refl
     fits e =
         let ok = accepted_only (checked account) (eqb-true (number_of (checked account)) 0 e) in
         let room = le-ltb longest_figures (length (figures (records account))) (figures_fit account ok) in
-        ap (λ (t : Bool). cond t (TooFewNumbers (length (records account))) Accepted) room ∙ sym ok
+        ap (λ (t : Bool). cond t (Err (TooFewNumbers (length (records account)))) (Ok tt)) room ∙ sym ok
 
     go : (t : Bool) → not_refused (checked account) ≡ t →
         cond t (enough (records account) (figures (records account)) longest_figures) (checked account) ≡ checked account
@@ -119,34 +120,34 @@ module _ (bytes lengths : List ℕ) (out : List ℤ) (outcomes : List ℕ) where
         outcome_is = sym (ap (λ (t : Bool). cond t (each_outcome (accounts_of lengths bytes) outcomes) outcomes) no);
       }
 
-  pub differ : eqb (sum lengths) (length bytes) ≡ false → Answered LengthsDiffer out outcomes
+  pub differ : eqb (sum lengths) (length bytes) ≡ false → Answered (Err LengthsDiffer) out outcomes
   differ e =
-      refused LengthsDiffer
-      (ap (λ (t : Bool). cond (not t) LengthsDiffer (cond (too_few (length lengths) (length out) (length outcomes)) (TooFewNumbers 0) Accepted)) e) refl
+      refused (Err LengthsDiffer)
+      (ap (λ (t : Bool). cond (not t) (Err LengthsDiffer) (cond (too_few (length lengths) (length out) (length outcomes)) (Err (TooFewNumbers 0)) (Ok tt))) e) refl
 
   module _ (e : eqb (sum lengths) (length bytes) ≡ true) where
-    then_enough : (t : Bool) → too_few (length lengths) (length out) (length outcomes) ≡ t → answer ≡ cond t (TooFewNumbers 0) Accepted
+    then_enough : (t : Bool) → too_few (length lengths) (length out) (length outcomes) ≡ t → answer ≡ cond t (Err (TooFewNumbers 0)) (Ok tt)
     then_enough t f =
-        ap₂ (λ (s t : Bool). cond (not s) LengthsDiffer (cond t (TooFewNumbers 0) Accepted)) e f
+        ap₂ (λ (s t : Bool). cond (not s) (Err LengthsDiffer) (cond t (Err (TooFewNumbers 0)) (Ok tt))) e f
 
-    pub few_figures : length out < longest_figures * length lengths → Answered (TooFewNumbers 0) out outcomes
+    pub few_figures : length out < longest_figures * length lengths → Answered (Err (TooFewNumbers 0)) out outcomes
     few_figures h =
-        refused (TooFewNumbers 0)
+        refused (Err (TooFewNumbers 0))
         (then_enough true
         (ap (λ (t : Bool). t || ltb (length outcomes) (outcome_numbers * length lengths)) (lt-ltb (length out) (longest_figures * length lengths) h))) refl
 
     pub few_outcomes : longest_figures * length lengths ≤ length out
-        → length outcomes < outcome_numbers * length lengths → Answered (TooFewNumbers 0) out outcomes
+        → length outcomes < outcome_numbers * length lengths → Answered (Err (TooFewNumbers 0)) out outcomes
     few_outcomes g h =
-        refused (TooFewNumbers 0)
+        refused (Err (TooFewNumbers 0))
         (then_enough true
         (ap₂ ◌||◌ (le-ltb (length out) (longest_figures * length lengths) g) (lt-ltb (length outcomes) (outcome_numbers * length lengths) h))) refl
 
     pub all : longest_figures * length lengths ≤ length out → outcome_numbers * length lengths ≤ length outcomes → (out' : List ℤ) (outcomes' : List ℕ) →
         out' ≡ each_figures (accounts_of lengths bytes) out
-        → outcomes' ≡ each_outcome (accounts_of lengths bytes) outcomes → Answered Accepted out' outcomes'
+        → outcomes' ≡ each_outcome (accounts_of lengths bytes) outcomes → Answered (Ok tt) out' outcomes'
     all g h out' outcomes' eo et =
-        let yes : answer ≡ Accepted =
+        let yes : answer ≡ (Ok tt) =
         then_enough false (ap₂ ◌||◌ (le-ltb (length out) (longest_figures * length lengths) g) (le-ltb (length outcomes) (outcome_numbers * length lengths) h))
         in
         record {

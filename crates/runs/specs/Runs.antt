@@ -1,10 +1,10 @@
 -- Request 2026-08, 'The whole book overnight': a run of accounts, answered in one call.
 -- Assumes nothing.
-use Rattle.std.specs.Prelude.{ℕ, ◌*◌, Bool, cond, not, ◌||◌, List, [], ◌∷◌, ◌++◌, eqb, ltb, ℤ, length, take, drop}
+use Rattle.std.specs.Prelude.{ℕ, ◌*◌, Bool, cond, not, ◌||◌, List, [], ◌∷◌, ◌++◌, eqb, ltb, ℤ, length, take, drop, Ok, Err}
 use Rattle.exact.specs.Lists.{sum}
 use Rattle.account.specs.Answers.{number_of, record_of}
-use Rattle.account.specs.declared.answers.Answer.{Answer}
-use Rattle.account.specs.declared.answers.Answer.TheVariants.{Accepted, TooFewNumbers, LengthsDiffer}
+use Rattle.account.specs.Answers.{Answer}
+use Rattle.account.specs.declared.answers.Refusal.TheVariants.{TooFewNumbers, LengthsDiffer}
 use Rattle.formulas.specs.Bounds.{longest_figures}
 use Rattle.margin.specs.Questions.{not_refused}
 use Rattle.questions.specs.Questions.{figures_answer, after_figures}
@@ -26,8 +26,8 @@ too_few accounts figures outcomes = ltb figures (longest_figures * accounts) || 
 -- too few numbers lent for all places." A sum is a sum of whole numbers: it does not wrap around.
 abbrev pub run_answer : List ℕ → List ℕ → ℕ → ℕ → Answer
 run_answer bytes lengths figures outcomes =
-    cond (not (eqb (sum lengths) (length bytes))) LengthsDiffer
-    (cond (too_few (length lengths) figures outcomes) (TooFewNumbers 0) Accepted)
+    cond (not (eqb (sum lengths) (length bytes))) (Err LengthsDiffer)
+    (cond (too_few (length lengths) figures outcomes) (Err (TooFewNumbers 0)) (Ok tt))
 
 -- each account's place in lent numbers, one after the other: what `after` leaves in it; nothing after the places is changed
 module _ {ℓ} {A : Type ℓ} where

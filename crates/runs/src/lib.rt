@@ -8,7 +8,7 @@ ghost use Rattle.questions.specs.Questions.{figures_answer, after_figures};
 ghost use Rattle.runs.specs.Runs.{outcome_numbers, outcome_of, run_answer, run_figures, run_outcomes};
 ghost use Rattle.margin.specs.Places.{at_place};
 
-use account::answers::{Answer, number_of, record_of};
+use account::answers::{Refusal, number_of, record_of};
 use margin::asking::Question;
 use margin::numbers::LONGEST_FIGURES;
 use questions::plain::answer;
@@ -34,7 +34,7 @@ pub fn add_up(lengths: &[usize], whole: usize) -> bool
 }
 
 // The figures of an account, in its place.
-fn place_figures(account: &[u8], place: usize, out: &mut [i64]) -> Answer
+fn place_figures(account: &[u8], place: usize, out: &mut [i64]) -> Result<(), Refusal>
     requires { longest_figures * place + longest_figures ≤ length out.old }
     ensures { (result ≡ figures_answer account.now longest_figures)
         × (out.new ≡ at_place longest_figures (longest_figures * place) (after_figures account.now) out.old) }
@@ -48,7 +48,7 @@ fn place_figures(account: &[u8], place: usize, out: &mut [i64]) -> Answer
 }
 
 // Refusal and record of an answer, in their place.
-fn place_outcome(answer: Answer, place: usize, out: &mut [usize])
+fn place_outcome(answer: Result<(), Refusal>, place: usize, out: &mut [usize])
     requires { outcome_numbers * place + outcome_numbers ≤ length out.old }
     ensures { out.new ≡ at_place outcome_numbers (outcome_numbers * place) (λ lent. outcome_of answer) out.old }
 {
@@ -66,20 +66,20 @@ pub fn answer_run(
     lengths: &[usize],
     out: &mut [i64],
     outcomes: &mut [usize],
-) -> Answer
+) -> Result<(), Refusal>
     ensures value { result ≡ run_answer accounts.now lengths.now (length out.old) (length outcomes.old) }
     ensures out_after { out.new ≡ run_figures accounts.now lengths.now (length outcomes.old) out.old }
     ensures outcomes_after { outcomes.new ≡ run_outcomes accounts.now lengths.now (length out.old) outcomes.old }
 {
     if !add_up(lengths, accounts.len()) {
-        return Answer::LengthsDiffer;
+        return Err(Refusal::LengthsDiffer);
     }
     let count = lengths.len();
     if out.len() / LONGEST_FIGURES < count {
-        return Answer::TooFewNumbers(0);
+        return Err(Refusal::TooFewNumbers(0));
     }
     if outcomes.len() / OUTCOME < count {
-        return Answer::TooFewNumbers(0);
+        return Err(Refusal::TooFewNumbers(0));
     }
     let mut at = 0;
     let mut i = 0;
@@ -90,5 +90,5 @@ pub fn answer_run(
         at = end;
         i += 1;
     }
-    Answer::Accepted
+    Ok(())
 }

@@ -1,5 +1,6 @@
 -- A ticket added to the lent bytes: what is told, and what they hold then, by where the ticket would stand.
 -- Assumes nothing.
+use Rattle.std.specs.Prelude.{Ok, Err}
 use Prim.Native.Nat.{ℕ, ◌+◌, ◌≤◌, ◌<◌}
 use native.Mathlib.Omega.{arith}
 use mathlib.Core.Path.{◌≡◌, sym, ap, ◌∙◌}
@@ -9,7 +10,7 @@ use lib.Seq.{length-take-le}
 use Rattle.record.specs.Layout.{Record, record_bytes}
 use Rattle.account.specs.Answers.{number_of}
 use Rattle.account.specs.Checked.{checked}
-use Rattle.account.specs.declared.answers.Answer.TheVariants.{Accepted, TooFewBytes}
+use Rattle.account.specs.declared.answers.Refusal.TheVariants.{TooFewBytes}
 use Rattle.margin.proofs.QuestionLaws.{accepted_only}
 use Rattle.tickets.specs.Ticket.{with_ticket, ticket_checked}
 use Rattle.screen.specs.code.Held.{PlacedIn, put_at}
@@ -24,7 +25,7 @@ use Rattle.screen.proofs.TicketLaws.{ticket_long, stands_within}
 
 module _ (file : List ℕ) (ticket : Record) (o : Order) (p : PlacedIn file ticket o) where
   module _ (z : number_of o.answer ≡ 0) where
-    stood : (checked file ≡ Accepted) × (ticket_checked file ticket ≡ Accepted)
+    stood : (checked file ≡ Ok tt) × (ticket_checked file ticket ≡ Ok tt)
     stood = both (checked file) (ticket_checked file ticket) (sym p.answer_is ∙ accepted_only o.answer z)
 
     pub whole : length ticket ≡ record_bytes
@@ -42,11 +43,11 @@ module _ (file : List ℕ) (ticket : Record) (o : Order) (p : PlacedIn file tick
 -- ---- lent bytes
 
 module _ (lent : List ℕ) (named : ℕ) (ticket : Record) where
-  pub none_lent : length lent < named → Comes lent named ticket (Refused TooFewBytes) lent
+  pub none_lent : length lent < named → Comes lent named ticket (Refused (Err TooFewBytes)) lent
   none_lent h =
       let e = order_lacking lent named ticket h in
-      let some : number_of TooFewBytes ≡ 0 → ⊥ = λ z. omega (arith, z) in
-      not-added lent named ticket TooFewBytes (add_refused lent named ticket (λ z. some (sym (ap number_of e) ∙ z)) ∙ e) some
+      let some : number_of (Err TooFewBytes) ≡ 0 → ⊥ = λ z. omega (arith, z) in
+      not-added lent named ticket (Err TooFewBytes) (add_refused lent named ticket (λ z. some (sym (ap number_of e) ∙ z)) ∙ e) some
 
   module _ (h : named ≤ length lent) (o : Order) (p : PlacedIn (held lent named) ticket o) where
     told : order_answer lent named ticket ≡ o.answer
@@ -57,11 +58,11 @@ module _ (lent : List ℕ) (named : ℕ) (ticket : Record) where
         not-added lent named ticket o.answer (add_refused lent named ticket (λ z. some (sym (ap number_of told) ∙ z)) ∙ told) some
 
     module _ (z : number_of o.answer ≡ 0) where
-      in_order : order_answer lent named ticket ≡ Accepted
+      in_order : order_answer lent named ticket ≡ Ok tt
       in_order = told ∙ accepted_only o.answer z
 
-      pub no_room_lem : length lent < named + record_bytes → Comes lent named ticket (Refused TooFewBytes) lent
-      no_room_lem g = not-added lent named ticket TooFewBytes (add_no_room lent named ticket in_order g) (λ e. omega (arith, e))
+      pub no_room_lem : length lent < named + record_bytes → Comes lent named ticket (Refused (Err TooFewBytes)) lent
+      no_room_lem g = not-added lent named ticket (Err TooFewBytes) (add_no_room lent named ticket in_order g) (λ e. omega (arith, e))
 
       pub at_named : o.at ≤ named
       at_named =

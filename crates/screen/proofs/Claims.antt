@@ -1,5 +1,6 @@
 -- The claims of request 2026-14: each refusal exactly in its order, and what the lent bytes hold once a ticket is added.
 -- Assumes nothing.
+use Rattle.std.specs.Prelude.{Ok, Err}
 use Prim.Native.Nat.{ℕ, ◌+◌, ◌*◌, ◌≤◌, ◌<◌}
 use native.Mathlib.Omega.{arith}
 use mathlib.Core.Path.{◌≡◌, refl, sym, ap, subst, subst⁻¹, ◌∙◌}
@@ -16,8 +17,8 @@ use Rattle.record.specs.Layout.{Record, record_bytes}
 use Rattle.account.specs.Answers.{number_of, record_of}
 use Rattle.account.specs.Checked.{checked}
 use Rattle.account.specs.Records.{records}
-use Rattle.account.specs.declared.answers.Answer.{Answer}
-use Rattle.account.specs.declared.answers.Answer.TheVariants.{Accepted, TooFewBytes}
+use Rattle.account.specs.Answers.{Answer}
+use Rattle.account.specs.declared.answers.Refusal.TheVariants.{TooFewBytes}
 use Rattle.margin.specs.Figures.{account_total}
 use Rattle.margin.specs.Questions.{not_refused, if_accepted}
 use Rattle.margin.proofs.QuestionLaws.{accepted_only, if_accepted_lem, if_refused}
@@ -34,10 +35,10 @@ use Rattle.screen.proofs.TicketLaws.{check_low, ticket_low, ticket_long, accepte
 -- ---- one answer, then the next
 
 module _ (a next : Answer) where
-  either : (n k : ℕ) → AnswerSays (if_accepted a next) n k → (n ≡ 0 → ⊥) → AnswerSays a n k ⊎ ((a ≡ Accepted) × AnswerSays next n k)
+  either : (n k : ℕ) → AnswerSays (if_accepted a next) n k → (n ≡ 0 → ⊥) → AnswerSays a n k ⊎ ((a ≡ Ok tt) × AnswerSays next n k)
   either n k says some = go (not_refused a) refl
     where
-      go : (t : Bool) → not_refused a ≡ t → AnswerSays a n k ⊎ ((a ≡ Accepted) × AnswerSays next n k)
+      go : (t : Bool) → not_refused a ≡ t → AnswerSays a n k ⊎ ((a ≡ Ok tt) × AnswerSays next n k)
       go true h =
           let ok = accepted_only a (eqb-true (number_of a) 0 h) in
           inr (ok, subst (λ (x : Answer). AnswerSays x n k) (if_accepted_lem a next ok) says)
@@ -46,7 +47,7 @@ module _ (a next : Answer) where
   first_says : (n k : ℕ) → (n ≡ 0 → ⊥) → AnswerSays a n k → AnswerSays (if_accepted a next) n k
   first_says n k some says = subst⁻¹ (λ (x : Answer). AnswerSays x n k) (if_refused a next (λ z. some (sym says.number ∙ z))) says
 
-  next_says : (n k : ℕ) → a ≡ Accepted → AnswerSays next n k → AnswerSays (if_accepted a next) n k
+  next_says : (n k : ℕ) → a ≡ Ok tt → AnswerSays next n k → AnswerSays (if_accepted a next) n k
   next_says n k ok says = subst⁻¹ (λ (x : Answer). AnswerSays x n k) (if_accepted_lem a next ok) says
 
   then_most : (m : ℕ) → number_of a ≤ m → number_of next ≤ m → number_of (if_accepted a next) ≤ m
@@ -72,7 +73,7 @@ module _ (lent : List ℕ) (named : ℕ) where
     };
   }
     where
-      sixteen : (t : Bool) → ltb (length lent) named ≡ t → number_of (cond t TooFewBytes (checked (held lent named))) ≡ 16 → length lent < named
+      sixteen : (t : Bool) → ltb (length lent) named ≡ t → number_of (cond t (Err TooFewBytes) (checked (held lent named))) ≡ 16 → length lent < named
       sixteen true h e = ltb-true (length lent) named h
       sixteen false h e = absurd (let m = check_low (held lent named) in omega (arith, m, e))
 
@@ -113,7 +114,7 @@ module _ (lent : List ℕ) (named : ℕ) where
         sixteen true h e = ltb-true (length lent) named h
         sixteen false h e = absurd (let m = order_most (ltb-false (length lent) named h) in omega (arith, m, e))
 
-        backwards : (n k : ℕ) → (n ≡ 0 → ⊥) → AnswerSays (load_answer lent named) n k ⊎ ((load_answer lent named ≡ Accepted) × AnswerSays row n k)
+        backwards : (n k : ℕ) → (n ≡ 0 → ⊥) → AnswerSays (load_answer lent named) n k ⊎ ((load_answer lent named ≡ Ok tt) × AnswerSays row n k)
             → AnswerSays order n k
         backwards n k some (inl says) = first_says (load_answer lent named) row n k some says
         backwards n k some (inr h) = next_says (load_answer lent named) row n k h.0 h.1
@@ -121,19 +122,19 @@ module _ (lent : List ℕ) (named : ℕ) where
     -- ---- "add a ticket"
 
     abbrev room : Answer
-    room = cond (no_room lent named) TooFewBytes Accepted
+    room = cond (no_room lent named) (Err TooFewBytes) (Ok tt)
 
-    has_room : room ≡ Accepted → named + record_bytes ≤ length lent
+    has_room : room ≡ Ok tt → named + record_bytes ≤ length lent
     has_room = go (no_room lent named) refl
       where
-        go : (t : Bool) → no_room lent named ≡ t → cond t TooFewBytes Accepted ≡ Accepted → named + record_bytes ≤ length lent
+        go : (t : Bool) → no_room lent named ≡ t → cond t (Err TooFewBytes) (Ok tt) ≡ Ok tt → named + record_bytes ≤ length lent
         go true h e = absurd (let n = ap number_of e in omega (arith, n))
         go false h e = ltb-false (length lent) (named + record_bytes) h
 
     no_room_lem : (n k : ℕ) → (n ≡ 0 → ⊥) → AnswerSays room n k → (n ≡ 16) × (length lent < named + record_bytes)
     no_room_lem n k some says = go (no_room lent named) refl says
       where
-        go : (t : Bool) → no_room lent named ≡ t → AnswerSays (cond t TooFewBytes Accepted) n k → (n ≡ 16) × (length lent < named + record_bytes)
+        go : (t : Bool) → no_room lent named ≡ t → AnswerSays (cond t (Err TooFewBytes) (Ok tt)) n k → (n ≡ 16) × (length lent < named + record_bytes)
         go true h s = (sym s.number, ltb-true (length lent) (named + record_bytes) h)
         go false h s = absurd (some (sym s.number))
 
@@ -147,20 +148,20 @@ module _ (lent : List ℕ) (named : ℕ) where
       accepted = record { forth = λ e. let h = both order room e in (h.0, has_room h.1); back = λ h. add_room lent named ticket h.0 h.1 };
     }
       where
-        other_of : (n k : ℕ) → (n ≡ 0 → ⊥) → (n ≡ 16 → ⊥) → AnswerSays order n k ⊎ ((order ≡ Accepted) × AnswerSays room n k) → AnswerSays order n k
+        other_of : (n k : ℕ) → (n ≡ 0 → ⊥) → (n ≡ 16 → ⊥) → AnswerSays order n k ⊎ ((order ≡ Ok tt) × AnswerSays room n k) → AnswerSays order n k
         other_of n k some other (inl says) = says
         other_of n k some other (inr h) = absurd (other (no_room_lem n k some h.1).0)
 
-        sixteen : number_of (add_answer lent named ticket) ≡ 16 → (length lent < named) ⊎ ((order ≡ Accepted) × (length lent < named + record_bytes))
+        sixteen : number_of (add_answer lent named ticket) ≡ 16 → (length lent < named) ⊎ ((order ≡ Ok tt) × (length lent < named + record_bytes))
         sixteen e = go (either order room 16 (record_of (add_answer lent named ticket)) (record { number = e; place = refl }) (λ z. omega (arith, z)))
           where
             go : AnswerSays order 16 (record_of (add_answer lent named ticket))
-                ⊎ ((order ≡ Accepted) × AnswerSays room 16 (record_of (add_answer lent named ticket)))
-                → (length lent < named) ⊎ ((order ≡ Accepted) × (length lent < named + record_bytes))
+                ⊎ ((order ≡ Ok tt) × AnswerSays room 16 (record_of (add_answer lent named ticket)))
+                → (length lent < named) ⊎ ((order ≡ Ok tt) × (length lent < named + record_bytes))
             go (inl says) = inl (order_exactly.sixteen.forth says.number)
             go (inr h) = inr (h.0, (no_room_lem 16 (record_of (add_answer lent named ticket)) (λ z. omega (arith, z)) h.1).1)
 
-        backwards : (length lent < named) ⊎ ((order ≡ Accepted) × (length lent < named + record_bytes)) → number_of (add_answer lent named ticket) ≡ 16
+        backwards : (length lent < named) ⊎ ((order ≡ Ok tt) × (length lent < named + record_bytes)) → number_of (add_answer lent named ticket) ≡ 16
         backwards (inl h) =
             let e = order_lacking lent named ticket h in
             ap number_of (add_refused lent named ticket (λ z. let n = ap number_of e in omega (arith, z, n)) ∙ e)
@@ -168,7 +169,7 @@ module _ (lent : List ℕ) (named : ℕ) where
 
     -- ---- after adding
 
-    module _ (e : add_answer lent named ticket ≡ Accepted) where
+    module _ (e : add_answer lent named ticket ≡ Ok tt) where
       abbrev file : List ℕ
       file = held lent named
 
@@ -178,16 +179,16 @@ module _ (lent : List ℕ) (named : ℕ) where
       abbrev after : List ℕ
       after = after_add lent named ticket
 
-      passed : (order ≡ Accepted) × (named + record_bytes ≤ length lent)
+      passed : (order ≡ Ok tt) × (named + record_bytes ≤ length lent)
       passed = add_exactly.accepted.forth e
 
-      stood : (load_answer lent named ≡ Accepted) × (row ≡ Accepted)
+      stood : (load_answer lent named ≡ Ok tt) × (row ≡ Ok tt)
       stood = order_exactly.accepted.forth passed.0
 
       all_named : named ≤ length lent
       all_named = let r = passed.1 in omega (arith, r)
 
-      ok : checked file ≡ Accepted
+      ok : checked file ≡ Ok tt
       ok = sym (all_lent lent named all_named) ∙ stood.0
 
       file_long : length file ≡ named
@@ -215,7 +216,7 @@ module _ (lent : List ℕ) (named : ℕ) where
           let r = passed.1 in
           omega (arith, p, d, w, r)
 
-      loads : load_answer after (named + record_bytes) ≡ Accepted
+      loads : load_answer after (named + record_bytes) ≡ Ok tt
       loads =
           all_lent after (named + record_bytes) (let l = as_long in let r = passed.1 in omega (arith, l, r))
           ∙ ap checked holds
@@ -262,7 +263,7 @@ module _ (lent : List ℕ) (named : ℕ) where
           ∙ ap (λ (u : Bool). cond t (cond u (Within (amount_of total)) (Over (amount_of total))) (Refused asked)) g
 
       yes_of : (n : ℕ) (t : Bool) → not_refused asked ≡ t → (u : Bool) → leb total (nat_abs limit) ≡ u → limited lent named ticket limit ≡ Within (amount_of n)
-          → (asked ≡ Accepted) × ((total ≡ n) × (n ≤ nat_abs limit))
+          → (asked ≡ Ok tt) × ((total ≡ n) × (n ≤ nat_abs limit))
       yes_of n true h true g e =
           let same : total ≡ n = ap limit_total (sym (said true h true g) ∙ e) in
           let le = leb-true total (nat_abs limit) g in
@@ -271,7 +272,7 @@ module _ (lent : List ℕ) (named : ℕ) where
       yes_of n false h u g e = absurd (let v : 0 ≡ 1 = ap limit_number (sym (said false h u g) ∙ e) in omega (arith, v))
 
       no_of : (n : ℕ) (t : Bool) → not_refused asked ≡ t → (u : Bool) → leb total (nat_abs limit) ≡ u → limited lent named ticket limit ≡ Over (amount_of n)
-          → (asked ≡ Accepted) × ((total ≡ n) × (nat_abs limit < n))
+          → (asked ≡ Ok tt) × ((total ≡ n) × (nat_abs limit < n))
       no_of n true h false g e =
           let same : total ≡ n = ap limit_total (sym (said true h false g) ∙ e) in
           let lt = leb-false total (nat_abs limit) g in
@@ -314,7 +315,7 @@ module _ (lent : List ℕ) (named : ℕ) where
         added = λ e h. limit_stands lent named ticket limit h ∙ (passed e).0;
       }
         where
-          in_order : (t : Bool) → lt_z limit (pos 0) ≡ t → asked ≡ Accepted → order ≡ Accepted
+          in_order : (t : Bool) → lt_z limit (pos 0) ≡ t → asked ≡ Ok tt → order ≡ Ok tt
           in_order true h e = absurd (let n = ap number_of (sym (limit_below lent named ticket limit h) ∙ e) in omega (arith, n))
           in_order false h e = sym (limit_stands lent named ticket limit h) ∙ e
 

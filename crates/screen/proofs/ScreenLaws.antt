@@ -1,5 +1,6 @@
 -- What each call answers, case by case: of bytes that are lent, the same as of the held file alone.
 -- Assumes nothing.
+use Rattle.std.specs.Prelude.{Ok, Err}
 use Prim.Native.Nat.{ℕ, zero, suc, ◌+◌, ◌-◌, ◌≤◌, ◌<◌}
 use native.Mathlib.Nat.{le_of_suc-le-suc, not-suc-le-zero}
 use native.Mathlib.Omega.{arith}
@@ -18,8 +19,8 @@ use Rattle.account.specs.Records.{records}
 use Rattle.account.specs.code.Standing.{Stands, CheckedBy}
 use Rattle.account.specs.Joined.{account_of}
 use Rattle.account.specs.declared.accounts.Checked.{Checked}
-use Rattle.account.specs.declared.answers.Answer.{Answer}
-use Rattle.account.specs.declared.answers.Answer.TheVariants.{Accepted, TooFewBytes, LimitBelowZero}
+use Rattle.account.specs.Answers.{Answer}
+use Rattle.account.specs.declared.answers.Refusal.TheVariants.{TooFewBytes, LimitBelowZero}
 use Rattle.account.proofs.Places.{alone}
 use Rattle.account.proofs.Alone.{passes}
 use Rattle.margin.specs.Figures.{account_total}
@@ -38,10 +39,10 @@ use Rattle.screen.specs.declared.Told.TheVariants.{Refused as NoTotal, Total}
 
 -- ---- one answer, then the next
 
-pub both : (a next : Answer) → if_accepted a next ≡ Accepted → (a ≡ Accepted) × (next ≡ Accepted)
+pub both : (a next : Answer) → if_accepted a next ≡ Ok tt → (a ≡ Ok tt) × (next ≡ Ok tt)
 both a next e = go (not_refused a) refl
   where
-    go : (t : Bool) → not_refused a ≡ t → (a ≡ Accepted) × (next ≡ Accepted)
+    go : (t : Bool) → not_refused a ≡ t → (a ≡ Ok tt) × (next ≡ Ok tt)
     go true h =
         let fine = accepted_only a (eqb-true (number_of a) 0 h) in
         (fine, sym (if_accepted_lem a next fine) ∙ e)
@@ -52,23 +53,23 @@ both a next e = go (not_refused a) refl
 -- ---- the named bytes, lent or not
 
 module _ (lent : List ℕ) (named : ℕ) where
-  pub lacking : length lent < named → load_answer lent named ≡ TooFewBytes
-  lacking h = ap (λ (t : Bool). cond t TooFewBytes (checked (held lent named))) (lt-ltb (length lent) named h)
+  pub lacking : length lent < named → load_answer lent named ≡ Err TooFewBytes
+  lacking h = ap (λ (t : Bool). cond t (Err TooFewBytes) (checked (held lent named))) (lt-ltb (length lent) named h)
 
   pub all_lent : named ≤ length lent → load_answer lent named ≡ checked (held lent named)
-  all_lent h = ap (λ (t : Bool). cond t TooFewBytes (checked (held lent named))) (le-ltb (length lent) named h)
+  all_lent h = ap (λ (t : Bool). cond t (Err TooFewBytes) (checked (held lent named))) (le-ltb (length lent) named h)
 
   total_by : (a : Answer) → load_answer lent named ≡ a → total_read lent named ≡ cond (not_refused a) (Total (amount_of (total_held lent named))) (NoTotal a)
   total_by a e = ap (λ (a : Answer). cond (not_refused a) (Total (amount_of (total_held lent named))) (NoTotal a)) e
 
-  pub total_lacking : length lent < named → total_read lent named ≡ NoTotal TooFewBytes
-  total_lacking h = total_by TooFewBytes (lacking h)
+  pub total_lacking : length lent < named → total_read lent named ≡ NoTotal (Err TooFewBytes)
+  total_lacking h = total_by (Err TooFewBytes) (lacking h)
 
   pub total_lent : named ≤ length lent → total_read lent named ≡ total_in (held lent named)
   total_lent h = total_by (checked (held lent named)) (all_lent h)
 
   module _ (ticket : Record) where
-    pub order_lacking : length lent < named → order_answer lent named ticket ≡ TooFewBytes
+    pub order_lacking : length lent < named → order_answer lent named ticket ≡ Err TooFewBytes
     order_lacking h = ap (λ (a : Answer). if_accepted a (ticket_checked (held lent named) ticket)) (lacking h)
 
     pub order_lent : named ≤ length lent → order_answer lent named ticket ≡ order_in (held lent named) ticket
@@ -87,17 +88,17 @@ module _ (lent : List ℕ) (named : ℕ) (ticket : Record) (limit : ℤ) where
       → limited lent named ticket limit ≡ cond (not_refused a) (weighed (nat_abs limit) (total_with lent named ticket)) (NotAsked a)
   limited_by a e = ap (λ (a : Answer). cond (not_refused a) (weighed (nat_abs limit) (total_with lent named ticket)) (NotAsked a)) e
 
-  pub limit_below : lt_z limit (pos 0) ≡ true → limit_answer lent named ticket limit ≡ LimitBelowZero
-  limit_below e = ap (λ (t : Bool). cond t LimitBelowZero (order_answer lent named ticket)) e
+  pub limit_below : lt_z limit (pos 0) ≡ true → limit_answer lent named ticket limit ≡ Err LimitBelowZero
+  limit_below e = ap (λ (t : Bool). cond t (Err LimitBelowZero) (order_answer lent named ticket)) e
 
   pub limit_stands : lt_z limit (pos 0) ≡ false → limit_answer lent named ticket limit ≡ order_answer lent named ticket
-  limit_stands e = ap (λ (t : Bool). cond t LimitBelowZero (order_answer lent named ticket)) e
+  limit_stands e = ap (λ (t : Bool). cond t (Err LimitBelowZero) (order_answer lent named ticket)) e
 
-  pub below_zero : lt_z limit (pos 0) ≡ true → limited lent named ticket limit ≡ NotAsked LimitBelowZero
-  below_zero e = limited_by LimitBelowZero (limit_below e)
+  pub below_zero : lt_z limit (pos 0) ≡ true → limited lent named ticket limit ≡ NotAsked (Err LimitBelowZero)
+  below_zero e = limited_by (Err LimitBelowZero) (limit_below e)
 
-  pub limit_lacking : lt_z limit (pos 0) ≡ false → length lent < named → limited lent named ticket limit ≡ NotAsked TooFewBytes
-  limit_lacking e h = limited_by TooFewBytes (limit_stands e ∙ order_lacking lent named ticket h)
+  pub limit_lacking : lt_z limit (pos 0) ≡ false → length lent < named → limited lent named ticket limit ≡ NotAsked (Err TooFewBytes)
+  limit_lacking e h = limited_by (Err TooFewBytes) (limit_stands e ∙ order_lacking lent named ticket h)
 
   module _ (e : lt_z limit (pos 0) ≡ false) (h : named ≤ length lent) where
     asked_is : limit_answer lent named ticket limit ≡ order_in (held lent named) ticket
@@ -109,8 +110,8 @@ module _ (lent : List ℕ) (named : ℕ) (ticket : Record) (limit : ℤ) where
         (limited_by a (asked_is ∙ sym f)
         ∙ ap (λ (t : Bool). cond t (weighed (nat_abs limit) (total_with lent named ticket)) (NotAsked a)) (ne_eqb (number_of a) 0 some))
 
-    pub limit_asked : order_in (held lent named) ticket ≡ Accepted → weighed (nat_abs limit) (total_with lent named ticket) ≡ limited lent named ticket limit
-    limit_asked f = sym (limited_by Accepted (asked_is ∙ f))
+    pub limit_asked : order_in (held lent named) ticket ≡ Ok tt → weighed (nat_abs limit) (total_with lent named ticket) ≡ limited lent named ticket limit
+    limit_asked f = sym (limited_by (Ok tt) (asked_is ∙ f))
 
 -- ---- adding
 
@@ -162,7 +163,7 @@ module _ (lent : List ℕ) (named : ℕ) (ticket : Record) where
             ∙ ap (λ (t : Bool). cond t (with_ticket (held lent named) ticket ++ drop (named + record_bytes) lent) lent) no);
       }
 
-  pub when_added : add_answer lent named ticket ≡ Accepted
+  pub when_added : add_answer lent named ticket ≡ Ok tt
       → Comes lent named ticket (Holds (named + record_bytes)) (with_ticket (held lent named) ticket ++ drop (named + record_bytes) lent)
   when_added e =
       record {
@@ -171,20 +172,20 @@ module _ (lent : List ℕ) (named : ℕ) (ticket : Record) where
       }
 
   abbrev room_answer : Answer
-  room_answer = cond (no_room lent named) TooFewBytes Accepted
+  room_answer = cond (no_room lent named) (Err TooFewBytes) (Ok tt)
 
   pub add_refused : (number_of (order_answer lent named ticket) ≡ 0 → ⊥) → add_answer lent named ticket ≡ order_answer lent named ticket
   add_refused h = if_refused (order_answer lent named ticket) room_answer h
 
-  pub add_no_room : order_answer lent named ticket ≡ Accepted → length lent < named + record_bytes → add_answer lent named ticket ≡ TooFewBytes
+  pub add_no_room : order_answer lent named ticket ≡ Ok tt → length lent < named + record_bytes → add_answer lent named ticket ≡ Err TooFewBytes
   add_no_room e h =
       if_accepted_lem (order_answer lent named ticket) room_answer e
-      ∙ ap (λ (t : Bool). cond t TooFewBytes Accepted) (lt-ltb (length lent) (named + record_bytes) h)
+      ∙ ap (λ (t : Bool). cond t (Err TooFewBytes) (Ok tt)) (lt-ltb (length lent) (named + record_bytes) h)
 
-  pub add_room : order_answer lent named ticket ≡ Accepted → named + record_bytes ≤ length lent → add_answer lent named ticket ≡ Accepted
+  pub add_room : order_answer lent named ticket ≡ Ok tt → named + record_bytes ≤ length lent → add_answer lent named ticket ≡ Ok tt
   add_room e h =
       if_accepted_lem (order_answer lent named ticket) room_answer e
-      ∙ ap (λ (t : Bool). cond t TooFewBytes Accepted) (le-ltb (length lent) (named + record_bytes) h)
+      ∙ ap (λ (t : Bool). cond t (Err TooFewBytes) (Ok tt)) (le-ltb (length lent) (named + record_bytes) h)
 
 -- ---- a file that is checked, by cases
 
@@ -200,14 +201,14 @@ module _ (file : List ℕ) (r : Checked) (by : CheckedBy file r) where
   order_refused ticket h =
       by.answer_is ∙ sym (if_refused (checked file) (ticket_checked file ticket) (λ z. h (ap number_of by.answer_is ∙ z)))
 
-  pub not_accepted : (number_of r.answer ≡ 0 → ⊥) → checked file ≡ Accepted → ⊥
+  pub not_accepted : (number_of r.answer ≡ 0 → ⊥) → checked file ≡ Ok tt → ⊥
   not_accepted h e = h (ap number_of (by.answer_is ∙ e))
 
   module _ (z : number_of r.answer ≡ 0) where
-    pub from_check : CheckedBy file (record { answer = Accepted; account = r.account })
+    pub from_check : CheckedBy file (record { answer = Ok tt; account = r.account })
     from_check = record { answer_is = sym (accepted_only r.answer z) ∙ by.answer_is; alone_by = by.alone_by; stands = by.stands }
 
-    pub ok : checked file ≡ Accepted
+    pub ok : checked file ≡ Ok tt
     ok = accepted_only (checked file) (ap number_of (sym by.answer_is) ∙ z)
 
     pub order_accepted : (ticket : Record) → order_in file ticket ≡ ticket_checked file ticket

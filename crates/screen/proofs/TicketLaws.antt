@@ -1,5 +1,6 @@
 -- What the check and the tickets say, as the screen's calls need it.
 -- Assumes nothing.
+use Rattle.std.specs.Prelude.{Ok, Err}
 use Prim.Native.Nat.{ℕ, ◌*◌, ◌≤◌}
 use native.Mathlib.Omega.{arith}
 use mathlib.Core.Path.{◌≡◌, ap, subst⁻¹}
@@ -12,9 +13,9 @@ use Rattle.record.specs.Layout.{Record, record_bytes}
 use Rattle.account.specs.Answers.{number_of, record_of, refusal}
 use Rattle.account.specs.Checked.{checked}
 use Rattle.account.specs.Records.{records}
-use Rattle.account.specs.declared.answers.Answer.{Answer}
-use Rattle.account.specs.declared.answers.Answer.TheVariants.{Accepted, UnknownKind, KindFalls, UnusedByte, FieldOutside, Unlisted, OutOfOrder, OverLimit}
-use Rattle.account.specs.declared.answers.Answer.TheVariants.{NoRate, ConversionBeyond}
+use Rattle.account.specs.Answers.{Answer}
+use Rattle.account.specs.declared.answers.Refusal.TheVariants.{UnknownKind, KindFalls, UnusedByte, FieldOutside, Unlisted, OutOfOrder, OverLimit}
+use Rattle.account.specs.declared.answers.Refusal.TheVariants.{NoRate, ConversionBeyond}
 use Rattle.account.proofs.Claimed.{claimed}
 use Rattle.tickets.specs.Claims.{TicketRow}
 use Rattle.tickets.specs.Ticket.{place, with_ticket, row_fault, ticket_checked}
@@ -28,11 +29,11 @@ Low a = number_of a ≤ 15
 
 by_test : (c d e f g h i j l : Bool) (k : ℕ) →
     Low
-    (cond c (UnknownKind k)
-    (cond d (KindFalls k)
-    (cond e (UnusedByte k)
-    (cond f (FieldOutside k)
-    (cond g (Unlisted k) (cond h (OutOfOrder k) (cond i (OverLimit k) (cond j (NoRate k) (cond l (ConversionBeyond k) Accepted)))))))))
+    (cond c (Err (UnknownKind k))
+    (cond d (Err (KindFalls k))
+    (cond e (Err (UnusedByte k))
+    (cond f (Err (FieldOutside k))
+    (cond g (Err (Unlisted k)) (cond h (Err (OutOfOrder k)) (cond i (Err (OverLimit k)) (cond j (Err (NoRate k)) (cond l (Err (ConversionBeyond k)) (Ok tt))))))))))
 by_test true d e f g h i j l k = omega arith
 by_test false true e f g h i j l k = omega arith
 by_test false false true f g h i j l k = omega arith
@@ -67,17 +68,17 @@ ticket_low file ticket =
 
 -- ---- an accepted ticket
 
-module _ (file : List ℕ) (ticket : Record) (ok : checked file ≡ Accepted) (taken : ticket_checked file ticket ≡ Accepted) where
+module _ (file : List ℕ) (ticket : Record) (ok : checked file ≡ Ok tt) (taken : ticket_checked file ticket ≡ Ok tt) where
   is_row : TicketRow ticket
   is_row = ((claims file ticket).exactly.accepted.forth (record { number = ap number_of taken; record_is = ap record_of taken })).0
 
   pub ticket_long : length ticket ≡ record_bytes
   ticket_long = is_row.whole
 
-  pub accepted_with : checked (with_ticket file ticket) ≡ Accepted
+  pub accepted_with : checked (with_ticket file ticket) ≡ Ok tt
   accepted_with = ((claims file ticket).put_in ok is_row).accepted.forth taken
 
-pub stands_within : (file : List ℕ) (ticket : Record) → checked file ≡ Accepted → place ticket (records file) * record_bytes ≤ length file
+pub stands_within : (file : List ℕ) (ticket : Record) → checked file ≡ Ok tt → place ticket (records file) * record_bytes ≤ length file
 stands_within file ticket ok =
     let p = place_within file ok ticket in
     let b = (plain file ok).bytes in

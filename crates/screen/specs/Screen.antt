@@ -1,12 +1,12 @@
 -- Request 2026-14, "The order screen's limit": what each call answers, and what the lent bytes hold afterwards.
 -- Assumes nothing.
-use Rattle.std.specs.Prelude.{ℕ, ◌+◌, Bool, cond, List, ◌++◌, leb, ltb, ℤ, pos, nat_abs, length, take, drop}
+use Rattle.std.specs.Prelude.{ℕ, ◌+◌, Bool, cond, List, ◌++◌, leb, ltb, ℤ, pos, nat_abs, length, take, drop, Ok, Err}
 use Rattle.std.specs.Int.Signed.{lt_z}
 use Rattle.record.specs.Layout.{Record, record_bytes}
 use Rattle.account.specs.Checked.{checked}
 use Rattle.account.specs.Records.{records}
-use Rattle.account.specs.declared.answers.Answer.{Answer}
-use Rattle.account.specs.declared.answers.Answer.TheVariants.{Accepted, TooFewBytes, LimitBelowZero}
+use Rattle.account.specs.Answers.{Answer}
+use Rattle.account.specs.declared.answers.Refusal.TheVariants.{TooFewBytes, LimitBelowZero}
 use Rattle.margin.specs.Figures.{account_total}
 use Rattle.margin.specs.Questions.{not_refused, if_accepted}
 use Rattle.formulas.specs.declared.amount.Amount.{Amount}
@@ -24,7 +24,7 @@ held lent named = take named lent
 
 -- "load an account": "16, more bytes named than lent; then 01's as amended for the account held"
 abbrev pub load_answer : List ℕ → ℕ → Answer
-load_answer lent named = cond (ltb (length lent) named) TooFewBytes (checked (held lent named))
+load_answer lent named = cond (ltb (length lent) named) (Err TooFewBytes) (checked (held lent named))
 
 -- "then 2026-07's for the ticket"
 abbrev pub order_answer : List ℕ → ℕ → Record → Answer
@@ -37,7 +37,7 @@ abbrev pub no_room : List ℕ → ℕ → Bool
 no_room lent named = ltb (length lent) (named + record_bytes)
 
 abbrev pub add_answer : List ℕ → ℕ → Record → Answer
-add_answer lent named ticket = if_accepted (order_answer lent named ticket) (cond (no_room lent named) TooFewBytes Accepted)
+add_answer lent named ticket = if_accepted (order_answer lent named ticket) (cond (no_room lent named) (Err TooFewBytes) (Ok tt))
 
 -- the held file with the ticket; what is lent after it stays. A refusal changes nothing.
 abbrev pub after_add : List ℕ → ℕ → Record → List ℕ
@@ -68,7 +68,7 @@ total_with lent named ticket = account_total (records (with_ticket (held lent na
 
 -- "20, limit below zero, first of all"
 abbrev pub limit_answer : List ℕ → ℕ → Record → ℤ → Answer
-limit_answer lent named ticket limit = cond (lt_z limit (pos 0)) LimitBelowZero (order_answer lent named ticket)
+limit_answer lent named ticket limit = cond (lt_z limit (pos 0)) (Err LimitBelowZero) (order_answer lent named ticket)
 
 -- "A yes is given exactly in that case. .. A ticket that is over the limit comes back with that total."
 abbrev pub weighed : ℕ → ℕ → Limited
@@ -83,7 +83,7 @@ limited lent named ticket limit =
 
 abbrev pub add_refusal : Added → Answer
 add_refusal (NotAdded answer) = answer
-add_refusal (Holds bytes) = Accepted
+add_refusal (Holds bytes) = Ok tt
 
 abbrev pub bytes_held : Added → ℕ
 bytes_held (NotAdded answer) = 0
@@ -91,7 +91,7 @@ bytes_held (Holds bytes) = bytes
 
 abbrev pub total_refusal : Told → Answer
 total_refusal (NoTotal answer) = answer
-total_refusal (Total amount) = Accepted
+total_refusal (Total amount) = Ok tt
 
 abbrev pub total_told : Told → ℕ
 total_told (NoTotal answer) = 0
@@ -99,8 +99,8 @@ total_told (Total amount) = amount.0
 
 abbrev pub limit_refusal : Limited → Answer
 limit_refusal (NotAsked answer) = answer
-limit_refusal (Within total) = Accepted
-limit_refusal (Over total) = Accepted
+limit_refusal (Within total) = Ok tt
+limit_refusal (Over total) = Ok tt
 
 -- 1 for a yes, 2 for a no
 abbrev pub limit_number : Limited → ℕ

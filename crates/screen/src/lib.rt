@@ -8,7 +8,7 @@ ghost use Rattle.screen.specs.code.Held.{PlacedIn, AskedIn, total_in};
 
 use crate::inserting::insert;
 use account::accounts::{check, check_file, nothing_of};
-use account::answers::{Answer, number_of};
+use account::answers::{Refusal, number_of};
 use exact::signed::{below, magnitude};
 use formulas::amount::Amount;
 use margin::everything::total_over;
@@ -21,31 +21,31 @@ mod inserting; // inserting.rt: a record put among the bytes of a file, in place
 // What comes back where a ticket is to be added: a refusal, or how many bytes hold the account file with it.
 #[derive(Clone, Copy)]
 pub enum Added {
-    Refused(Answer),
+    Refused(Result<(), Refusal>),
     Holds(usize),
 }
 
 // What comes back where a total is read.
 #[derive(Clone, Copy)]
 pub enum Told {
-    Refused(Answer),
+    Refused(Result<(), Refusal>),
     Total(Amount),
 }
 
 // What comes back where a ticket is asked about: a refusal, or the total with it, within the limit or over it.
 #[derive(Clone, Copy)]
 pub enum Limited {
-    Refused(Answer),
+    Refused(Result<(), Refusal>),
     Within(Amount),
     Over(Amount),
 }
 
 // Whether the first `named` of the lent bytes are an accepted account file.
-pub fn load(lent: &[u8], named: usize) -> Answer
+pub fn load(lent: &[u8], named: usize) -> Result<(), Refusal>
     ensures { result ≡ load_answer lent.now named }
 {
     if lent.len() < named {
-        return Answer::TooFewBytes;
+        return Err(Refusal::TooFewBytes);
     }
     check(&lent[..named])
 }
@@ -53,7 +53,7 @@ pub fn load(lent: &[u8], named: usize) -> Answer
 // What a ticket is refused for, and the byte of its file at which it would stand.
 #[derive(Clone, Copy)]
 struct Order {
-    answer: Answer,
+    answer: Result<(), Refusal>,
     at: usize,
 }
 
@@ -80,7 +80,7 @@ pub fn add(lent: &mut [u8], named: usize, ticket: &[u8]) -> Added
         × (lent.new ≡ after_add lent.old named ticket.now) }
 {
     if lent.len() < named {
-        return Added::Refused(Answer::TooFewBytes);
+        return Added::Refused(Err(Refusal::TooFewBytes));
     }
     let order = place_order(&lent[..named], ticket);
     let answer = order.answer;
@@ -88,7 +88,7 @@ pub fn add(lent: &mut [u8], named: usize, ticket: &[u8]) -> Added
         return Added::Refused(answer);
     }
     if lent.len() - named < RECORD_BYTES {
-        return Added::Refused(Answer::TooFewBytes);
+        return Added::Refused(Err(Refusal::TooFewBytes));
     }
     let at = order.at;
     insert(lent, at, named, ticket);
@@ -112,7 +112,7 @@ pub fn total(lent: &[u8], named: usize) -> Told
     ensures { result ≡ total_read lent.now named }
 {
     if lent.len() < named {
-        return Told::Refused(Answer::TooFewBytes);
+        return Told::Refused(Err(Refusal::TooFewBytes));
     }
     total_in(&lent[..named])
 }
@@ -120,7 +120,7 @@ pub fn total(lent: &[u8], named: usize) -> Told
 // What a ticket is refused for, and the total of its file with it where it is not.
 #[derive(Clone, Copy)]
 struct Asked {
-    answer: Answer,
+    answer: Result<(), Refusal>,
     total: Amount,
 }
 
@@ -168,10 +168,10 @@ pub fn limit(lent: &[u8], named: usize, ticket: &[u8], limit: i64) -> Limited
     ensures { result ≡ limited lent.now named ticket.now limit }
 {
     if below(limit, 0) {
-        return Limited::Refused(Answer::LimitBelowZero);
+        return Limited::Refused(Err(Refusal::LimitBelowZero));
     }
     if lent.len() < named {
-        return Limited::Refused(Answer::TooFewBytes);
+        return Limited::Refused(Err(Refusal::TooFewBytes));
     }
     let asked = ask_order(&lent[..named], ticket);
     let answer = asked.answer;

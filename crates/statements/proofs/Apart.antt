@@ -1,5 +1,6 @@
 -- What is said of the accounts of the examples, computed from the definitions.
 -- Assumes nothing.
+use Rattle.std.specs.Prelude.{Ok}
 use mathlib.Core.Path.{◌≡◌, refl}
 use mathlib.Core.Bool.{Bool, true, false}
 use mathlib.Core.List.Permᴰ
@@ -9,7 +10,6 @@ use lib.IntN.{pos}
 use Rattle.exact.specs.Lists.{cons_if}
 use Rattle.account.specs.Checked.{checked}
 use Rattle.account.specs.Records.{records}
-use Rattle.account.specs.declared.answers.Answer.TheVariants.{Accepted}
 use Rattle.margin.specs.Figures.{figures}
 use Rattle.statements.specs.Statements.{Rearranged, SameButOrder, RowsOfBoth}
 use Rattle.statements.specs.Apart.{long_row, short_row, file_of, CanBeMet, NotTheMargin}
@@ -28,16 +28,16 @@ turned false = Permᴰ.nil
 same_but_order_lem : SameButOrder (records (file_of (long_row ++ short_row))) (records (file_of (short_row ++ long_row)))
 same_but_order_lem = record { others = refl; rows = λ c. turned (eqb 1 c) }
 
-long_accepted : checked (file_of long_row) ≡ Accepted
+long_accepted : checked (file_of long_row) ≡ Ok tt
 long_accepted = refl
 
-short_accepted : checked (file_of short_row) ≡ Accepted
+short_accepted : checked (file_of short_row) ≡ Ok tt
 short_accepted = refl
 
-both_accepted : checked (file_of (long_row ++ short_row)) ≡ Accepted
+both_accepted : checked (file_of (long_row ++ short_row)) ≡ Ok tt
 both_accepted = refl
 
-turned_accepted : checked (file_of (short_row ++ long_row)) ≡ Accepted
+turned_accepted : checked (file_of (short_row ++ long_row)) ≡ Ok tt
 turned_accepted = refl
 
 pub can_be_met_lem : CanBeMet

@@ -1,5 +1,6 @@
 -- The two statements, proved.
 -- Assumes nothing.
+use Rattle.std.specs.Prelude.{Ok, Err}
 use Prim.Native.Nat.{ℕ, ◌+◌}
 use mathlib.Core.Path.{◌≡◌, refl, sym, ap, ap₂, ◌∙◌}
 use mathlib.Core.Bool.{Bool, false, cond, ◌||◌}
@@ -12,8 +13,8 @@ use Rattle.exact.proofs.Lists.{length-keep, map_same, sum_ℤ_append}
 use Rattle.record.specs.Layout.{Record, contract, day, unit}
 use Rattle.account.specs.Parts.{of_kind, of_contract, contracts_of, prompts_of, rows_of, spreads_of, entries_of, rates_of}
 use Rattle.account.specs.Whole.{parts_by, Whole}
-use Rattle.account.specs.declared.answers.Answer.{Answer}
-use Rattle.account.specs.declared.answers.Answer.TheVariants.{Accepted, TooFewNumbers, NoSuchQuestion}
+use Rattle.account.specs.Answers.{Answer}
+use Rattle.account.specs.declared.answers.Refusal.TheVariants.{TooFewNumbers, NoSuchQuestion}
 use Rattle.account.proofs.Whole.{whole_file, whole_pair}
 use Rattle.margin.specs.Books.{asks, contract_book, of_each, of_question, table_book, table_question}
 use Rattle.formulas.specs.Contract.{Contract, contract_from, contracts, parts_in}
@@ -189,7 +190,7 @@ module _ {a b : List Record} (s : SameButOrder a b) where
     where
       said : Bool → ℕ → List ℤ → ℕ → Answer
       said t many numbers lent =
-          if_accepted (cond t Accepted (NoSuchQuestion many)) (cond (ltb lent (length numbers)) (TooFewNumbers many) Accepted)
+          if_accepted (cond t (Ok tt) (Err (NoSuchQuestion many))) (cond (ltb lent (length numbers)) (Err (TooFewNumbers many)) (Ok tt))
 
       answer : (question : Question) (lent : ℕ) → answer_over a question lent ≡ answer_over b question lent
       answer question lent =

@@ -1,11 +1,10 @@
 -- The accounts of examples/apart-long.csv, apart-short.csv and together.csv: they are such as the two statements speak of, and they show
 -- what the second does not say. It speaks of the scanning risk, and the margin of both can be more than the sum of the two.
 -- Assumes nothing.
-use Rattle.std.specs.Prelude.{ℕ, ◌≡◌, List, [], ◌∷◌, ◌++◌, map, ℤ, pos, negsuc}
+use Rattle.std.specs.Prelude.{ℕ, ◌≡◌, List, [], ◌∷◌, ◌++◌, map, ℤ, pos, negsuc, Ok}
 use Rattle.record.specs.Layout.{Record}
 use Rattle.account.specs.Checked.{checked}
 use Rattle.account.specs.Records.{records}
-use Rattle.account.specs.declared.answers.Answer.TheVariants.{Accepted}
 use Rattle.margin.specs.Entered.{contract_record, prompt_record, row_record, spread_record}
 use Rattle.margin.specs.Figures.{figures}
 use Rattle.statements.specs.Statements.{SameButOrder, RowsOfBoth}
@@ -45,10 +44,10 @@ file_of rows =
 
 -- what the two statements ask for is met by accepted accounts: the rows of both, and these in the other order
 pub record CanBeMet : Type 0 where
-  pub long_accepted : checked (file_of long_row) ≡ Accepted
-  pub short_accepted : checked (file_of short_row) ≡ Accepted
-  pub both_accepted : checked (file_of (long_row ++ short_row)) ≡ Accepted
-  pub turned_accepted : checked (file_of (short_row ++ long_row)) ≡ Accepted
+  pub long_accepted : checked (file_of long_row) ≡ Ok tt
+  pub short_accepted : checked (file_of short_row) ≡ Ok tt
+  pub both_accepted : checked (file_of (long_row ++ short_row)) ≡ Ok tt
+  pub turned_accepted : checked (file_of (short_row ++ long_row)) ≡ Ok tt
   pub rows_of_both : RowsOfBoth (records (file_of long_row)) (records (file_of short_row)) (records (file_of (long_row ++ short_row)))
   pub same_but_order : SameButOrder (records (file_of (long_row ++ short_row))) (records (file_of (short_row ++ long_row)))
 

@@ -1,7 +1,7 @@
 -- Request 2026-13, 'Two things clients ask us to state', as claims about the definitions. `statements` of proofs/Stated.antt proves
 -- them of the records of any account, in one file or joined from two; docs/STATEMENTS.md says them in plain words.
 -- Assumes nothing.
-use Rattle.std.specs.Prelude.{ℕ, ◌+◌, ◌≤◌, ◌≡◌, Bool, true, not, ℤ}
+use Rattle.std.specs.Prelude.{ℕ, ◌+◌, ◌≤◌, ◌≡◌, Bool, true, not, ℤ, Ok}
 use mathlib.Core.List.{List, ◌++◌, Permᴰ}
 use Rattle.exact.specs.Lists.{keep}
 use Rattle.record.specs.Layout.{Record}
@@ -10,7 +10,6 @@ use Rattle.account.specs.Noon.{clear, joined_verdict}
 use Rattle.account.specs.Parts.{of_kind, rows_of}
 use Rattle.account.specs.Records.{records}
 use Rattle.account.specs.Joined.{account_of}
-use Rattle.account.specs.declared.answers.Answer.TheVariants.{Accepted}
 use Rattle.margin.specs.Books.{answered, book}
 use Rattle.formulas.specs.Contract.{parts_in, scanning_of}
 use Rattle.margin.specs.Figures.{figures}
@@ -64,7 +63,7 @@ pub record AtMostTheSum (a b both : List Record) : Type 0 where
 pub record Statements : Type 0 where
   pub order : (a b : List Record) → SameButOrder a b → AnswerAlike a b
   -- of accepted files, and of pairs of a morning and a noon file that are not refused
-  pub files : (file other : List ℕ) → checked file ≡ Accepted → checked other ≡ Accepted → SameButOrder (records file) (records other)
+  pub files : (file other : List ℕ) → checked file ≡ Ok tt → checked other ≡ Ok tt → SameButOrder (records file) (records other)
       → AskedAlike (records file) (records other)
   pub pairs : (morning noon morning' noon' : List ℕ) → clear (joined_verdict morning noon) ≡ true → clear (joined_verdict morning' noon') ≡ true
       → SameButOrder (account_of morning noon) (account_of morning' noon') → AskedAlike (account_of morning noon) (account_of morning' noon')

@@ -1,5 +1,6 @@
 -- Tickets in turn, and what is told of a file with its tickets.
 -- Assumes nothing.
+use Rattle.std.specs.Prelude.{Ok, Err}
 use Prim.Native.Nat.{ℕ, ◌+◌, ◌-◌, ◌*◌, ◌/◌, ◌%◌, ◌≤◌, ◌<◌}
 use mathlib.Core.Path.{◌≡◌, refl, sym, ap, ap₂, ◌∙◌, subst⁻¹}
 use mathlib.Core.Bool.{Bool, true, false, cond}
@@ -15,8 +16,8 @@ use Rattle.record.specs.Layout.{Record}
 use Rattle.account.specs.Answers.{number_of}
 use Rattle.account.specs.Checked.{checked}
 use Rattle.account.specs.Records.{record_at, cut}
-use Rattle.account.specs.declared.answers.Answer.{Answer}
-use Rattle.account.specs.declared.answers.Answer.TheVariants.{Accepted, NoTicketLeft}
+use Rattle.account.specs.Answers.{Answer}
+use Rattle.account.specs.declared.answers.Refusal.TheVariants.{NoTicketLeft}
 use Rattle.account.proofs.Earlier.{cut_more, take-cut}
 use Rattle.account.proofs.AcceptedOnly.{accepted_only}
 use Rattle.account.proofs.Walk.{cut_on, length_cut}
@@ -75,7 +76,7 @@ module _ (file bytes : List ℕ) (n : ℕ) where
         ∙ sym (ap (one_by_one i (with_tickets file (cut i bytes))) (cut_on bytes n i h)
         ∙ if_no (ticket_checked (with_tickets file (cut i bytes)) (record_at bytes i)) _ _ (λ z. nz (ap number_of e ∙ z)))
 
-  pub from_end : (i : ℕ) → n ≤ i → of i Accepted ≡ FromOn i
+  pub from_end : (i : ℕ) → n ≤ i → of i (Ok tt) ≡ FromOn i
   from_end i h =
       let e : n - i ≡ 0 = omega arith in
       ap (λ (m : ℕ). one_by_one i (with_tickets file (cut i bytes)) (cut m (drop (i * record_bytes) bytes))) (sym e)
@@ -95,7 +96,7 @@ module _ (file : List ℕ) (ts : List Record) where
   abbrev withdraw_by : Ticketed → Asked
   withdraw_by v =
       cond (not_refused v.answer)
-      (cond (eqb v.ticket 0) (refused_by (of 0 NoTicketLeft)) (answered_by v.ticket (margin_total held)
+      (cond (eqb v.ticket 0) (refused_by (of 0 (Err NoTicketLeft))) (answered_by v.ticket (margin_total held)
       (margin_total (with_tickets file (take (length ts - 1) ts)))))
       (refused_by v)
 
@@ -111,7 +112,7 @@ module _ (file : List ℕ) (ts : List Record) where
     withdraw_no_file = sym (ap withdraw_by (sym no_file) ∙ if_no a _ _ nz)
 
   -- the file is accepted
-  module _ (ok : checked file ≡ Accepted) (n : ℕ) (a : Answer) (told : of n a ≡ one_by_one 0 file ts) where
+  module _ (ok : checked file ≡ Ok tt) (n : ℕ) (a : Answer) (told : of n a ≡ one_by_one 0 file ts) where
     its : of n a ≡ standing file ts
     its = told ∙ sym (if_yes (checked file) (one_by_one 0 file ts) (of 0 (checked file)) (ap number_of ok))
 
@@ -138,24 +139,24 @@ module _ (file : List ℕ) (ts : List Record) where
             (λ j. record { ticket = e j; answer = (f ∙ accepted_only b y) j; before = record { 0 = g j }; after = record { 0 = h j } })
             ∙ sym (here ∙ if_yes (ticket_checked held t) _ _ (ap number_of (sym i) ∙ y))
 
-      there : withdrawn_from file ts ≡ cond (eqb n 0) (refused_by (of 0 NoTicketLeft))
+      there : withdrawn_from file ts ≡ cond (eqb n 0) (refused_by (of 0 (Err NoTicketLeft)))
           (answered_by n (margin_total held) (margin_total (with_tickets file (take (length ts - 1) ts))))
       there = ap withdraw_by (sym its) ∙ if_yes a _ _ z
 
-      pub withdraw_none : (b : Answer) → n ≡ 0 → b ≡ NoTicketLeft → refused_by (of n b) ≡ withdrawn_from file ts
+      pub withdraw_none : (b : Answer) → n ≡ 0 → b ≡ Err NoTicketLeft → refused_by (of n b) ≡ withdrawn_from file ts
       withdraw_none b e f =
           ap₂ (λ (m : ℕ) (x : Answer). refused_by (of m x)) e f
           ∙ sym (there
-          ∙ ap (λ (t : Bool). cond t (refused_by (of 0 NoTicketLeft))
+          ∙ ap (λ (t : Bool). cond t (refused_by (of 0 (Err NoTicketLeft)))
           (answered_by n (margin_total held) (margin_total (with_tickets file (take (length ts - 1) ts))))) (eq-eqb n 0 e))
 
       pub withdraw_answered :
-          (n ≡ 0 → ⊥) → (r : Asked) → r.ticket ≡ n → r.answer ≡ Accepted → r.before.0 ≡ margin_total held
+          (n ≡ 0 → ⊥) → (r : Asked) → r.ticket ≡ n → r.answer ≡ Ok tt → r.before.0 ≡ margin_total held
           → r.after.0 ≡ margin_total (with_tickets file (take (length ts - 1) ts)) → r ≡ withdrawn_from file ts
       withdraw_answered nz r e f g h =
           (λ j. record { ticket = e j; answer = f j; before = record { 0 = g j }; after = record { 0 = h j } })
           ∙ sym (there
-          ∙ ap (λ (t : Bool). cond t (refused_by (of 0 NoTicketLeft))
+          ∙ ap (λ (t : Bool). cond t (refused_by (of 0 (Err NoTicketLeft)))
           (answered_by n (margin_total held) (margin_total (with_tickets file (take (length ts - 1) ts))))) (ne_eqb n 0 nz))
 
 -- ---- the tickets that are kept
@@ -164,7 +165,7 @@ none_left m nz = go (eqb m 0) refl
   where
     go : (b : Bool) → eqb m 0 ≡ b → m ≡ 0
     go true e = eqb-true m 0 e
-    go false e = absurd (nz (ap (λ (b : Bool). number_of (cond b NoTicketLeft Accepted)) e))
+    go false e = absurd (nz (ap (λ (b : Bool). number_of (cond b (Err NoTicketLeft) (Ok tt))) e))
 
 pub some_left : (m : ℕ) → number_of (withdrawal m) ≡ 0 → m ≡ 0 → ⊥
 some_left m z e =
@@ -190,7 +191,7 @@ module _ (file bytes : List ℕ) (k : Kept) (kb : KeptBy file (tickets_in bytes)
             ((length bytes + 95) / record_bytes) bytes,
       )))
 
-  pub nothing_left : (b : Answer) → b ≡ withdrawal k.counts.tickets → (number_of b ≡ 0 → ⊥) → (length (tickets_in bytes) ≡ 0) × (b ≡ NoTicketLeft)
+  pub nothing_left : (b : Answer) → b ≡ withdrawal k.counts.tickets → (number_of b ≡ 0 → ⊥) → (length (tickets_in bytes) ≡ 0) × (b ≡ Err NoTicketLeft)
   nothing_left b e nz =
       let z = none_left k.counts.tickets (λ y. nz (ap number_of e ∙ y)) in
       (sym kb.counts.many ∙ z, e ∙ ap withdrawal z)

@@ -1,5 +1,6 @@
 -- The claims about a ticket.
 -- Assumes nothing.
+use Rattle.std.specs.Prelude.{Ok, Err}
 use Prim.Native.Nat.{ℕ, ◌≤◌, ◌<◌}
 use mathlib.Core.Path.{◌≡◌, refl, sym, ap, ap₂, ◌∙◌, subst, subst⁻¹}
 use mathlib.Core.Bool.{Bool, true, false, not, ◌&&◌, cond}
@@ -18,8 +19,8 @@ use Rattle.exact.specs.Iff.{Iff}
 use Rattle.account.specs.Parts.{of_kind, rates_of}
 use Rattle.account.specs.Products.{has_rate, conversion_beyond}
 use Rattle.account.specs.Records.{records, record_count}
-use Rattle.account.specs.declared.answers.Answer.{Answer}
-use Rattle.account.specs.declared.answers.Answer.TheVariants.{Accepted, TooLong, CutRecord, UnknownKind}
+use Rattle.account.specs.Answers.{Answer}
+use Rattle.account.specs.declared.answers.Refusal.TheVariants.{TooLong, CutRecord, UnknownKind}
 use Rattle.account.proofs.Exactly.{Rising, none-given, leads, leads_back, clean_back}
 use Rattle.tickets.specs.Claims.{OneRowMore, PutIn, TicketGives, TicketRow, FirstFor, NoneFor, Exactly, Claims}
 use Rattle.tickets.specs.Ticket.{place, with_ticket, ahead, row_refusals, row_fault, ticket_checked}
@@ -78,7 +79,7 @@ module _ (file : List ℕ) (t : Record) where
   -- ---- what a ticket is told, case by case
   abbrev shape : Bool → Bool → Bool → Bool → Answer
   shape whole row none full =
-      cond (not whole) CutRecord (cond (not row) (UnknownKind p) (cond none (cond full TooLong Accepted) (refusal fault p)))
+      cond (not whole) (Err CutRecord) (cond (not row) (Err (UnknownKind p)) (cond none (cond full (Err TooLong) (Ok tt)) (refusal fault p)))
 
   pub shaped :
       (w k z f : Bool) → eqb (length t) record_bytes ≡ w → eqb (kind t) 3 ≡ k → eqb fault 0 ≡ z → leb most_records (record_count file) ≡ f
@@ -87,11 +88,11 @@ module _ (file : List ℕ) (t : Record) where
       ap₂ (λ (a b : Bool). shape a b (eqb fault 0) (leb most_records (record_count file))) e i ∙ ap₂ (λ (a b : Bool). shape w k a b) h l
 
   pub record Told (P : Type 0) : Type 0 where
-    pub two : (length t ≡ record_bytes → ⊥) → ticket_checked file t ≡ CutRecord → P
-    pub three : length t ≡ record_bytes → (kind t ≡ 3 → ⊥) → ticket_checked file t ≡ UnknownKind p → P
+    pub two : (length t ≡ record_bytes → ⊥) → ticket_checked file t ≡ Err CutRecord → P
+    pub three : length t ≡ record_bytes → (kind t ≡ 3 → ⊥) → ticket_checked file t ≡ Err (UnknownKind p) → P
     pub row : TicketRow t → (fault ≡ 0 → ⊥) → ticket_checked file t ≡ refusal fault p → P
-    pub one : TicketRow t → fault ≡ 0 → most_records ≤ record_count file → ticket_checked file t ≡ TooLong → P
-    pub accepted : TicketRow t → fault ≡ 0 → record_count file < most_records → ticket_checked file t ≡ Accepted → P
+    pub one : TicketRow t → fault ≡ 0 → most_records ≤ record_count file → ticket_checked file t ≡ Err TooLong → P
+    pub accepted : TicketRow t → fault ≡ 0 → record_count file < most_records → ticket_checked file t ≡ Ok tt → P
 
   pub told : {P : Type 0} → Told P → P
   told {P} cases = go (eqb (length t) record_bytes) refl (eqb (kind t) 3) refl (eqb fault 0) refl (leb most_records (record_count file)) refl
@@ -126,7 +127,7 @@ module _ (file : List ℕ) (t : Record) where
   none_of : fault ≡ 0 → NoneFor file t
   none_of z = none-given 0 (row_refusals file t) rising z
 
-  pub none_told : ticket_checked file t ≡ Accepted → fault ≡ 0
+  pub none_told : ticket_checked file t ≡ Ok tt → fault ≡ 0
   none_told h =
       told (record {
         two = λ d e. differs 2 e h refl (λ i. omega arith);
@@ -136,7 +137,7 @@ module _ (file : List ℕ) (t : Record) where
         accepted = λ r z f e. z;
       })
     where
-      differs : {a : Answer} {P : Type 0} (n : ℕ) → ticket_checked file t ≡ a → ticket_checked file t ≡ Accepted → number_of a ≡ n → (n ≡ 0 → ⊥) → P
+      differs : {a : Answer} {P : Type 0} (n : ℕ) → ticket_checked file t ≡ a → ticket_checked file t ≡ Ok tt → number_of a ≡ n → (n ≡ 0 → ⊥) → P
       differs n e h i d = absurd (d (sym i ∙ ap number_of (sym e ∙ h)))
 
   none_back : NoneFor file t → fault ≡ 0
@@ -264,7 +265,7 @@ module _ (file : List ℕ) (t : Record) where
       }
 
   -- ---- a row put into an accepted file
-  module _ (ok : checked file ≡ Accepted) (r : TicketRow t) where
+  module _ (ok : checked file ≡ Ok tt) (r : TicketRow t) where
     pub one_row_more : OneRowMore t (records file) (records (with_ticket file t))
     one_row_more =
         let rs = records file in
@@ -282,17 +283,17 @@ module _ (file : List ℕ) (t : Record) where
         })
 
     -- what the ticket is told is Accepted only with room
-    room_of : ticket_checked file t ≡ Accepted → record_count file < most_records
+    room_of : ticket_checked file t ≡ Ok tt → record_count file < most_records
     room_of h = (exactly.accepted.forth (record { number = ap number_of h; record_is = ap record_of h })).1.1
 
-    same_verdict : Iff (ticket_checked file t ≡ Accepted) (checked (with_ticket file t) ≡ Accepted)
+    same_verdict : Iff (ticket_checked file t ≡ Ok tt) (checked (with_ticket file t) ≡ Ok tt)
     same_verdict =
         record {
           forth = λ h. checked_with file ok t r.whole r.row (room_of h) ∙ h;
           back = λ h. go h (leb most_records (record_count file)) refl;
         }
       where
-        go : checked (with_ticket file t) ≡ Accepted → (b : Bool) → leb most_records (record_count file) ≡ b → ticket_checked file t ≡ Accepted
+        go : checked (with_ticket file t) ≡ Ok tt → (b : Bool) → leb most_records (record_count file) ≡ b → ticket_checked file t ≡ Ok tt
         go h false e = sym (checked_with file ok t r.whole r.row (leb-false most_records (record_count file) e)) ∙ h
         go h true e =
             let z : ◌≡◌ {A = ℕ} 1 0 = ap number_of (sym (full_with_lem file ok t r.whole r.row (leb-true most_records (record_count file) e)) ∙ h) in

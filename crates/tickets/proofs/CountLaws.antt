@@ -1,5 +1,6 @@
 -- What a ticket is told, by the counts of the account with the tickets put in so far; and the counts with one ticket more or less.
 -- Assumes nothing.
+use Rattle.std.specs.Prelude.{Ok, Err}
 use Prim.Native.Nat.{ℕ, zero, suc, ◌+◌, ◌-◌, ◌≤◌, ◌<◌}
 use mathlib.Core.Path.{◌≡◌, refl, sym, ap, ap₂, ◌∙◌, subst, subst⁻¹}
 use mathlib.Core.Bool.{Bool, true, false, not, ◌&&◌, ◌||◌, cond, and-false}
@@ -33,8 +34,8 @@ use Rattle.account.specs.Records.{records, record_count}
 use Rattle.account.specs.code.Standing.{Stands, PartOf, Filled, CheckedBy}
 use Rattle.account.specs.Joined.{account_of}
 use Rattle.account.specs.declared.accounts.Account.{Account}
-use Rattle.account.specs.declared.answers.Answer.{Answer}
-use Rattle.account.specs.declared.answers.Answer.TheVariants.{Accepted, TooLong, CutRecord, UnknownKind}
+use Rattle.account.specs.Answers.{Answer}
+use Rattle.account.specs.declared.answers.Refusal.TheVariants.{TooLong, CutRecord, UnknownKind}
 use Rattle.account.proofs.Alone.{lawful}
 use Rattle.account.proofs.Lists.{any_keep, none_counted}
 use Rattle.account.proofs.Noted.{part_is}
@@ -57,7 +58,7 @@ four_within true b c e h = absurd (omega arith)
 four_within false true c e h = absurd (omega arith)
 four_within false false c e h = refl
 
-two_none : (a b : Bool) (k : ℕ) → number_of (or_else (first_of (14 when a ∷ 15 when b ∷ [])) k Accepted) ≡ 0 → first_of (14 when a ∷ 15 when b ∷ []) ≡ 0
+two_none : (a b : Bool) (k : ℕ) → number_of (or_else (first_of (14 when a ∷ 15 when b ∷ [])) k (Ok tt)) ≡ 0 → first_of (14 when a ∷ 15 when b ∷ []) ≡ 0
 two_none true b k h = absurd (omega arith)
 two_none false true k h = absurd (omega arith)
 two_none false false k h = refl
@@ -67,8 +68,8 @@ sum_alike f g e zero = refl
 sum_alike f g e (suc n) = ap₂ (λ (a b : ℕ). a + b) (sum_alike f g e n) (e n)
 
 -- ---- an account that stands in one file
-module _ (file : List ℕ) (account : Account) (by : CheckedBy file (record { answer = Accepted; account = account })) where
-  pub file_ok : checked file ≡ Accepted
+module _ (file : List ℕ) (account : Account) (by : CheckedBy file (record { answer = Ok tt; account = account })) where
+  pub file_ok : checked file ≡ Ok tt
   file_ok = sym by.answer_is
 
   pub stands_in : (none : List ℕ) → none ≡ [] → Stands file none account
@@ -98,10 +99,10 @@ module _ (file : List ℕ) (ts : List Record) (k : Counts) (co : CountsOf file t
   abbrev G : List ℕ
   G = with_tickets file ts
 
-  ok : checked file ≡ Accepted
+  ok : checked file ≡ Ok tt
   ok = file_ok file k.account co.from_check
 
-  pub with_ok : checked G ≡ Accepted
+  pub with_ok : checked G ≡ Ok tt
   with_ok = accepted_with file ts ok co.taken
 
   parts : SameParts (records file) (records G)
@@ -222,12 +223,12 @@ module _ (file : List ℕ) (ts : List Record) (k : Counts) (co : CountsOf file t
         fault_by_lem G with_ok t r ∙ ap (λ (n : ℕ). cond (eqb n 0) (rate_fault_of rates t) n) (sym (parts_fault none e r))
 
     -- ---- what the ticket is told
-    pub tell_2 : (length t ≡ record_bytes → ⊥) → CutRecord ≡ ticket_checked G t
+    pub tell_2 : (length t ≡ record_bytes → ⊥) → Err CutRecord ≡ ticket_checked G t
     tell_2 d = sym (shaped G t false (eqb (kind t) 3) (eqb (row_fault G t) 0) (leb most_records (record_count G)) (ne_eqb (length t) record_bytes d) refl refl refl)
 
-    pub tell_3 : (p : ℕ) → p ≡ k.above + sum (take (contract t + 1) k.rows) → length t ≡ record_bytes → (kind t ≡ 3 → ⊥) → UnknownKind p ≡ ticket_checked G t
+    pub tell_3 : (p : ℕ) → p ≡ k.above + sum (take (contract t + 1) k.rows) → length t ≡ record_bytes → (kind t ≡ 3 → ⊥) → (Err (UnknownKind p)) ≡ ticket_checked G t
     tell_3 p e w d =
-        ap UnknownKind (e ∙ sym (place_is t))
+        ap (λ (n : ℕ). Err (UnknownKind n)) (e ∙ sym (place_is t))
         ∙ sym (shaped G t true false (eqb (row_fault G t) 0) (leb most_records (record_count G)) (eq-eqb (length t) record_bytes w) (ne_eqb (kind t) 3 d) refl refl)
 
     module _ (none : List ℕ) (nothing : none ≡ []) (w : length t ≡ record_bytes) (row : kind t ≡ 3) where
@@ -262,8 +263,8 @@ module _ (file : List ℕ) (ts : List Record) (k : Counts) (co : CountsOf file t
             → a ≡ ticket_checked G t
         tell_rate p e a i nz =
             let m = rate_fault_of rates t in
-            let some : m ≡ 0 → ⊥ = λ x. nz (ap number_of i ∙ ap (λ (j : ℕ). number_of (or_else j p Accepted)) x) in
-            i ∙ ap (λ (b : Bool). cond b Accepted (refusal m p)) (ne_eqb m 0 some)
+            let some : m ≡ 0 → ⊥ = λ x. nz (ap number_of i ∙ ap (λ (j : ℕ). number_of (or_else j p (Ok tt))) x) in
+            i ∙ ap (λ (b : Bool). cond b (Ok tt) (refusal m p)) (ne_eqb m 0 some)
             ∙ ap₂ refusal (sym by_rates) (e ∙ sym (place_is t))
             ∙ sym (shaped G t true true false (leb most_records (record_count G)) (eq-eqb (length t) record_bytes w) (eq-eqb (kind t) 3 row)
             (ne_eqb (row_fault G t) 0 (λ x. some (sym by_rates ∙ x))) refl)
@@ -273,12 +274,12 @@ module _ (file : List ℕ) (ts : List Record) (k : Counts) (co : CountsOf file t
           no_fault =
               by_rates ∙ two_none (of_kind 3 t && not (has_rate rates t)) (of_kind 3 t && conversion_beyond rates t) p (sym (ap number_of i) ∙ none_told)
 
-          pub tell_1 : most_records ≤ k.account.records + k.tickets → TooLong ≡ ticket_checked G t
+          pub tell_1 : most_records ≤ k.account.records + k.tickets → Err TooLong ≡ ticket_checked G t
           tell_1 h =
               sym (shaped G t true true true true (eq-eqb (length t) record_bytes w) (eq-eqb (kind t) 3 row)
               (eq-eqb (row_fault G t) 0 no_fault) (le-leb most_records (record_count G) (omega (arith, many_with))))
 
-          pub tell_0 : k.account.records + k.tickets < most_records → Accepted ≡ ticket_checked G t
+          pub tell_0 : k.account.records + k.tickets < most_records → Ok tt ≡ ticket_checked G t
           tell_0 h =
               sym (shaped G t true true true false (eq-eqb (length t) record_bytes w) (eq-eqb (kind t) 3 row)
               (eq-eqb (row_fault G t) 0 no_fault) (lt-leb most_records (record_count G) (omega (arith, many_with))))
@@ -312,7 +313,7 @@ none-beyond n c (r ∷ rs) h e =
     let z : of_contract n c r ≡ false = ap (λ (b : Bool). of_kind n r && b) (ne_eqb (contract r) c (λ i. omega arith)) ∙ and-false (of_kind n r) in
     ap₂ (λ (b : Bool) (i : ℕ). one_if b + i) z (none-beyond n c rs h e.1)
 
-module _ (file : List ℕ) (account : Account) (by : CheckedBy file (record { answer = Accepted; account = account })) where
+module _ (file : List ℕ) (account : Account) (by : CheckedBy file (record { answer = Ok tt; account = account })) where
   -- how many records of a kind each contract has
   totals_are : (n : ℕ) → n ≤ 4 → (xs : List ℕ) → Filled most_contracts (λ c. get_or account.counts (part n c) 0) xs → (c : ℕ)
       → get_or xs c 0 ≡ count (of_contract n c) (records file)
@@ -365,7 +366,7 @@ module _ (file : List ℕ) (account : Account) (by : CheckedBy file (record { an
       → Filled most_contracts (λ c. get_or account.counts (part 3 c) 0) k.rows → CountsOf file [] k
   counts_start k prompts a z filled e rows =
       record {
-        from_check = subst⁻¹ (λ (x : Account). CheckedBy file (record { answer = Accepted; account = x })) a by;
+        from_check = subst⁻¹ (λ (x : Account). CheckedBy file (record { answer = Ok tt; account = x })) a by;
         taken = λ n h. absurd (omega arith);
         many = z;
         above_is =
@@ -378,7 +379,7 @@ module _ (file : List ℕ) (account : Account) (by : CheckedBy file (record { an
       }
 
 -- ---- one ticket more
-pub taken_passed : (file : List ℕ) (t : Record) → checked file ≡ Accepted → ticket_checked file t ≡ Accepted → Passed (ahead file t) t
+pub taken_passed : (file : List ℕ) (t : Record) → checked file ≡ Ok tt → ticket_checked file t ≡ Ok tt → Passed (ahead file t) t
 taken_passed file t ok h =
     let r = taken_row file t h in
     let es = ahead file t in
@@ -397,7 +398,7 @@ module _ (file : List ℕ) (ts : List Record) (t : Record) where
   last_records : records (with_tickets file (ts ++ t ∷ [])) ≡ records (with_ticket F t)
   last_records = ap records (tickets_last file ts t)
 
-  module _ (ok : checked F ≡ Accepted) (h : ticket_checked F t ≡ Accepted) where
+  module _ (ok : checked F ≡ Ok tt) (h : ticket_checked F t ≡ Ok tt) where
     one : OneRowMore t (records F) (records (with_ticket F t))
     one = one_row_more F t ok (taken_row F t h)
 
@@ -416,11 +417,11 @@ module _ (file : List ℕ) (ts : List Record) (t : Record) where
         ∙ sym (count_rows c (records F))
 
 pub counts_more :
-    (file : List ℕ) (ts : List Record) (t : Record) (k m : Counts) → CountsOf file ts k → ticket_checked (with_tickets file ts) t ≡ Accepted
+    (file : List ℕ) (ts : List Record) (t : Record) (k m : Counts) → CountsOf file ts k → ticket_checked (with_tickets file ts) t ≡ Ok tt
     → OneMore (contract t) k m → CountsOf file (ts ++ t ∷ []) m
 counts_more file ts t k m co h more =
     record {
-      from_check = subst⁻¹ (λ (x : Account). CheckedBy file (record { answer = Accepted; account = x })) more.account_is co.from_check;
+      from_check = subst⁻¹ (λ (x : Account). CheckedBy file (record { answer = Ok tt; account = x })) more.account_is co.from_check;
       taken = taken_more file ts t co.taken h;
       many = more.tickets_are ∙ ap (λ (n : ℕ). n + 1) co.many ∙ sym (length-append ts (t ∷ []));
       above_is = more.above_is ∙ co.above_is;
@@ -428,7 +429,7 @@ counts_more file ts t k m co h more =
       rows_are = λ c. ap (λ (xs : List ℕ). get_or xs c 0) more.rows_are ∙ go c (eqb (contract t) c) refl;
     }
   where
-    fine : checked (with_tickets file ts) ≡ Accepted
+    fine : checked (with_tickets file ts) ≡ Ok tt
     fine = with_ok file ts k co
 
     go :
@@ -447,10 +448,10 @@ counts_more file ts t k m co h more =
 
 -- ---- one ticket less
 module _ (file : List ℕ) (ts : List Record) (t : Record) (k : Counts) (co : CountsOf file (ts ++ t ∷ []) k) where
-  pub taken_here : ticket_checked (with_tickets file ts) t ≡ Accepted
+  pub taken_here : ticket_checked (with_tickets file ts) t ≡ Ok tt
   taken_here = taken_last file ts t co.taken
 
-  pub before_ok : checked (with_tickets file ts) ≡ Accepted
+  pub before_ok : checked (with_tickets file ts) ≡ Ok tt
   before_ok = accepted_with file ts (file_ok file k.account co.from_check) (taken_less file ts t co.taken)
 
   pub some_rows : 1 ≤ get_or k.rows (contract t) 0
@@ -465,7 +466,7 @@ module _ (file : List ℕ) (ts : List Record) (t : Record) (k : Counts) (co : Co
   pub counts_less : (m : Counts) → OneLess (contract t) k m → CountsOf file ts m
   counts_less m less =
       record {
-        from_check = subst⁻¹ (λ (x : Account). CheckedBy file (record { answer = Accepted; account = x })) less.account_is co.from_check;
+        from_check = subst⁻¹ (λ (x : Account). CheckedBy file (record { answer = Ok tt; account = x })) less.account_is co.from_check;
         taken = taken_less file ts t co.taken;
         many = less.tickets_are ∙ omega (arith, co.many, length-append ts (t ∷ []));
         above_is = less.above_is ∙ co.above_is;

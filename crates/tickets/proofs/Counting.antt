@@ -1,5 +1,6 @@
 -- The place of a ticket and what it is refused for, by how many records the parts of the account have.
 -- Assumes nothing.
+use Rattle.std.specs.Prelude.{Ok}
 use Prim.Native.Nat.{ℕ, zero, suc, ◌+◌, ◌<◌}
 use mathlib.Core.Path.{◌≡◌, refl, sym, ap, ap₂, ◌∙◌}
 use mathlib.Core.Bool.{Bool, true, false, not, ◌&&◌, ◌||◌, cond, or-false}
@@ -19,7 +20,6 @@ use Rattle.account.specs.Checked.{rate_refusals, rate_fault_of, checked}
 use Rattle.account.specs.code.Notes.{no_day}
 use Rattle.account.specs.Parts.{of_kind, of_contract, on_day, prompts_of, rates_of}
 use Rattle.account.specs.Records.{records, record_count, cut}
-use Rattle.account.specs.declared.answers.Answer.TheVariants.{Accepted}
 use Rattle.account.proofs.Dispatch.{unlisted_3, over_3}
 use Rattle.account.proofs.Earlier.{any_earlier, count-earlier, take-cut}
 use Rattle.account.proofs.Lists.{any_keep}
@@ -129,7 +129,7 @@ place_by_lem t rs rows e =
     )
 
 -- ---- every record of an accepted list has a kind and a contract that are known
-pub known_all : (k : ℕ) (es rs : List Record) → first_fault k es rs ≡ Accepted → Each Known rs
+pub known_all : (k : ℕ) (es rs : List Record) → first_fault k es rs ≡ Ok tt → Each Known rs
 known_all k es [] h = tt
 known_all k es (r ∷ rs) h =
     let a = accepted_next k es r rs h in
@@ -154,7 +154,7 @@ pub kind-places : (n : ℕ) (rs : List Record) → Each Known rs → count (of_k
 kind-places n rs e = kind_within n rs e ∙ up_to_lem n most_contract rs
 
 -- ---- the records before the ticket's place, and all records
-module _ (file : List ℕ) (ok : checked file ≡ Accepted) (t : Record) (r : TicketRow t) where
+module _ (file : List ℕ) (ok : checked file ≡ Ok tt) (t : Record) (r : TicketRow t) where
   abbrev rs : List Record
   rs = records file
 
@@ -233,7 +233,7 @@ staged false false false true rest = refl
 staged false false false false rest = refl
 
 pub fault_by_lem :
-    (file : List ℕ) (ok : checked file ≡ Accepted) (t : Record) (r : TicketRow t)
+    (file : List ℕ) (ok : checked file ≡ Ok tt) (t : Record) (r : TicketRow t)
     → row_fault file t
     ≡ cond (eqb (row_fault_by (not (any (of_contract 1 (contract t)) (records file)) || no_day (prompts_of (contract t) (records file)) (day t))
     (count (of_contract 3 (contract t)) (records file)) t) 0)

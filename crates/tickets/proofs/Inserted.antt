@@ -1,6 +1,7 @@
 -- A row put into a list of records that the check accepts, after all that stand before it: the check of the longer list says of the row
 -- what it is refused for there, and nothing of the other records; and what it changes of the account's parts.
 -- Assumes nothing.
+use Rattle.std.specs.Prelude.{Ok}
 use Prim.Native.Nat.{ℕ, suc, ◌+◌, ◌≤◌, ◌<◌}
 use mathlib.Core.Path.{◌≡◌, refl, sym, ap, ap₂, ◌∙◌, subst, subst⁻¹}
 use mathlib.Core.Bool.{Bool, true, false, not, ◌&&◌, ◌||◌, cond, and-false}
@@ -20,8 +21,7 @@ use Rattle.account.specs.Answers.{number_of, refusal}
 use Rattle.account.specs.Check.{the_one_before, kind_falls, unlisted, out_of_order, over_limit, fault_of, or_else, first_fault, none, lists_contract, lists_day, lists_tier}
 use Rattle.account.specs.Check.{leg_unlisted, contract_falls, legs_clash, most_rows, most_spreads, most_entries}
 use Rattle.account.specs.Parts.{of_kind, of_contract, contracts_of, prompts_of, rows_of, spreads_of, entries_of, rates_of}
-use Rattle.account.specs.declared.answers.Answer.{Answer}
-use Rattle.account.specs.declared.answers.Answer.TheVariants.{Accepted}
+use Rattle.account.specs.Answers.{Answer}
 use Rattle.account.proofs.Dispatch.{order_3, order_4, order_5, order_6, unlisted_3, unlisted_4, unlisted_5, over_3, over_4, over_5}
 use Rattle.account.proofs.Firsts.{number_refusal, is_0}
 use Rattle.account.proofs.Lists.{keep-none}
@@ -31,11 +31,11 @@ use Rattle.tickets.specs.Ticket.{stands_before, place}
 
 -- ---- the check of a list, one record at a time
 pub accepted_next :
-    (k : ℕ) (es : List Record) (r : Record) (later : List Record) → first_fault k es (r ∷ later) ≡ Accepted
-    → (fault_of es r ≡ 0) × (first_fault (k + 1) (r ∷ es) later ≡ Accepted)
+    (k : ℕ) (es : List Record) (r : Record) (later : List Record) → first_fault k es (r ∷ later) ≡ Ok tt
+    → (fault_of es r ≡ 0) × (first_fault (k + 1) (r ∷ es) later ≡ Ok tt)
 accepted_next k es r later h = go (eqb (fault_of es r) 0) refl
   where
-    go : (t : Bool) → eqb (fault_of es r) 0 ≡ t → (fault_of es r ≡ 0) × (first_fault (k + 1) (r ∷ es) later ≡ Accepted)
+    go : (t : Bool) → eqb (fault_of es r) 0 ≡ t → (fault_of es r ≡ 0) × (first_fault (k + 1) (r ∷ es) later ≡ Ok tt)
     go true e = (
       eqb-true (fault_of es r) 0 e,
       sym (ap (λ (b : Bool). cond b (first_fault (k + 1) (r ∷ es) later) (refusal (fault_of es r) k)) e) ∙ h,
@@ -44,7 +44,7 @@ accepted_next k es r later h = go (eqb (fault_of es r) 0) refl
         let n = fault_of es r in
         let nz = eqb-false n 0 e in
         let i = fault_number es r n refl nz in
-        let z : refusal n k ≡ Accepted =
+        let z : refusal n k ≡ (Ok tt) =
         sym (ap (λ (b : Bool). cond b (first_fault (k + 1) (r ∷ es) later) (refusal n k)) e) ∙ h in
         absurd (nz (sym (number_refusal n k i.0 i.1) ∙ ap number_of z))
 
@@ -151,7 +151,7 @@ module _ (t : Record) where
       }
 
   none_after :
-      (k : ℕ) (es later : List Record) → first_fault k es later ≡ Accepted → Later (the_one_before es)
+      (k : ℕ) (es later : List Record) → first_fault k es later ≡ Ok tt → Later (the_one_before es)
       → Each Later later
   none_after k es [] h l = tt
   none_after k es (r ∷ later) h l =
@@ -178,20 +178,20 @@ module _ (t : Record) where
 
   -- all that is later than a record that does not stand before the ticket
   rest_later :
-      (k : ℕ) (es : List Record) (r : Record) (rs : List Record) → Passed es r → first_fault (k + 1) (r ∷ es) rs ≡ Accepted
+      (k : ℕ) (es : List Record) (r : Record) (rs : List Record) → Passed es r → first_fault (k + 1) (r ∷ es) rs ≡ Ok tt
       → stands_before t r ≡ false → Each Later (r ∷ rs)
   rest_later k es r rs p m e =
       let l = later_of r (known_of r p).low e in
       (l, none_after (k + 1) (r ∷ es) rs m l)
 
-  pub apart : (k : ℕ) (es rs : List Record) → first_fault k es rs ≡ Accepted → Apart (place t rs) rs
+  pub apart : (k : ℕ) (es rs : List Record) → first_fault k es rs ≡ Ok tt → Apart (place t rs) rs
   apart k es [] h = record { first = tt; rest = tt }
   apart k es (r ∷ rs) h =
       let a = accepted_next k es r rs h in
       go (passed es r a.0) a.1 (apart (k + 1) (r ∷ es) rs a.1) (stands_before t r) refl
     where
       go :
-          Passed es r → first_fault (k + 1) (r ∷ es) rs ≡ Accepted → Apart (place t rs) rs → (b : Bool) → stands_before t r ≡ b
+          Passed es r → first_fault (k + 1) (r ∷ es) rs ≡ Ok tt → Apart (place t rs) rs → (b : Bool) → stands_before t r ≡ b
           → Apart (place t (r ∷ rs)) (r ∷ rs)
       go p m i true e =
           subst (λ (n : ℕ). Apart n (r ∷ rs)) (place_one r rs e)
@@ -312,7 +312,7 @@ module _ (t : Record) where
     -- ---- the later records are as they were
     still_accepted :
         (k m : ℕ) (es es' later : List Record) → Beside es es' → the_one_before es' ≡ the_one_before es
-        → first_fault k es later ≡ Accepted → Each Later later → first_fault m es' later ≡ Accepted
+        → first_fault k es later ≡ Ok tt → Each Later later → first_fault m es' later ≡ Ok tt
     still_accepted k m es es' [] b e h l = refl
     still_accepted k m es es' (y ∷ later) b e h l =
         let a = accepted_next k es y later h in
@@ -322,8 +322,8 @@ module _ (t : Record) where
         ∙ still_accepted (k + 1) (m + 1) (y ∷ es) (y ∷ es') later (beside_more y es es' b) refl a.1 l.1
 
     pushed :
-        (k m : ℕ) (es later : List Record) → first_fault k es later ≡ Accepted → Each Later later
-        → first_fault m (t ∷ es) later ≡ Accepted
+        (k m : ℕ) (es later : List Record) → first_fault k es later ≡ Ok tt → Each Later later
+        → first_fault m (t ∷ es) later ≡ Ok tt
     pushed k m es [] h l = refl
     pushed k m es (y ∷ later) h l =
         let a = accepted_next k es y later h in
@@ -336,31 +336,31 @@ module _ (t : Record) where
     -- ---- the check of the longer list
     abbrev Says : ℕ → List Record → List Record → ℕ → Type 0
     Says k es rs n =
-        first_fault k es (take n rs ++ t ∷ drop n rs) ≡ or_else (fault_of (onto (take n rs) es) t) (k + n) Accepted
+        first_fault k es (take n rs ++ t ∷ drop n rs) ≡ or_else (fault_of (onto (take n rs) es) t) (k + n) (Ok tt)
 
-    pub inserted : (k : ℕ) (es rs : List Record) → first_fault k es rs ≡ Accepted → Says k es rs (place t rs)
+    pub inserted : (k : ℕ) (es rs : List Record) → first_fault k es rs ≡ Ok tt → Says k es rs (place t rs)
     inserted k es [] h =
         let z : k ≡ k + 0 = omega arith in
-        ap (λ (n : ℕ). or_else (fault_of es t) n Accepted) z
+        ap (λ (n : ℕ). or_else (fault_of es t) n (Ok tt)) z
     inserted k es (r ∷ rs) h =
         let a = accepted_next k es r rs h in
         go (passed es r a.0) a.0 a.1 (inserted (k + 1) (r ∷ es) rs a.1) (stands_before t r) refl
       where
         go :
-            Passed es r → fault_of es r ≡ 0 → first_fault (k + 1) (r ∷ es) rs ≡ Accepted → Says (k + 1) (r ∷ es) rs (place t rs)
+            Passed es r → fault_of es r ≡ 0 → first_fault (k + 1) (r ∷ es) rs ≡ Ok tt → Says (k + 1) (r ∷ es) rs (place t rs)
             → (b : Bool) → stands_before t r ≡ b → Says k es (r ∷ rs) (place t (r ∷ rs))
         go p f m i true e =
             let n = place t rs in
             let z : k + 1 + n ≡ k + suc n = omega arith in
             subst (Says k es (r ∷ rs)) (place_one r rs e)
             (no_fault (fault_of es r) k (first_fault (k + 1) (r ∷ es) (take n rs ++ t ∷ drop n rs)) f
-            ∙ i ∙ ap (λ (j : ℕ). or_else (fault_of (onto (take n rs) (r ∷ es)) t) j Accepted) z)
+            ∙ i ∙ ap (λ (j : ℕ). or_else (fault_of (onto (take n rs) (r ∷ es)) t) j (Ok tt)) z)
         go p f m i false e =
             let l = rest_later k es r rs p m e in
             let z : k ≡ k + 0 = omega arith in
             subst⁻¹ (Says k es (r ∷ rs)) (count_none (r ∷ rs) l)
             (ap (or_else (fault_of es t) k) (pushed k (k + 1) es (r ∷ rs) h l)
-            ∙ ap (λ (n : ℕ). or_else (fault_of es t) n Accepted) z)
+            ∙ ap (λ (n : ℕ). or_else (fault_of es t) n (Ok tt)) z)
 
     -- ---- the parts
     kept_not : (q : Record → Bool) (n : ℕ) (rs : List Record) → q t ≡ false → keep q (take n rs ++ t ∷ drop n rs) ≡ keep q rs

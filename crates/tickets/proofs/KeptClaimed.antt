@@ -1,5 +1,6 @@
 -- One kept account goes with a file and its tickets.
 -- Assumes nothing.
+use Rattle.std.specs.Prelude.{Ok, Err}
 use Prim.Native.Nat.{ℕ}
 use mathlib.Core.Path.{◌≡◌, refl, sym, ap, ◌∙◌}
 use mathlib.Core.Bool.{Bool, true, false, cond}
@@ -12,7 +13,7 @@ use Rattle.record.specs.Layout.{Record}
 use Rattle.account.specs.Answers.{number_of, record_of}
 use Rattle.account.specs.Records.{records}
 use Rattle.account.specs.declared.accounts.Checked.{Checked}
-use Rattle.account.specs.declared.answers.Answer.TheVariants.{Accepted, NoTicketLeft}
+use Rattle.account.specs.declared.answers.Refusal.TheVariants.{NoTicketLeft}
 use Rattle.account.proofs.OneJoined.{one_file_lem}
 use Rattle.margin.proofs.PositionsLaws.{one_positions}
 use Rattle.tickets.specs.code.Counts.{CountsOf}
@@ -25,7 +26,7 @@ use Rattle.tickets.specs.declared.kept.Kept.{Kept}
 one_counts : (file : List ℕ) (ts : List Record) (a b : Counts) → CountsOf file ts a → CountsOf file ts b → a ≡ b
 one_counts file ts a b x y =
     let accounts =
-    one_file_lem file (record { answer = Accepted; account = a.account }) (record { answer = Accepted; account = b.account }) x.from_check y.from_check in
+    one_file_lem file (record { answer = Ok tt; account = a.account }) (record { answer = Ok tt; account = b.account }) x.from_check y.from_check in
     let rows = ext_get_or 0 a.rows b.rows (x.places ∙ sym y.places) (λ c h. x.rows_are c ∙ sym (y.rows_are c)) in
     λ i.
     record {
@@ -47,13 +48,13 @@ none_told n h = go (eqb n 0) refl
     go : (b : Bool) → eqb n 0 ≡ b → n ≡ 0
     go true e = eqb-true n 0 e
     go false e =
-        let z : ◌≡◌ {A = ℕ} 0 22 = sym (ap (λ (b : Bool). number_of (cond b NoTicketLeft Accepted)) e) ∙ h in
+        let z : ◌≡◌ {A = ℕ} 0 22 = sym (ap (λ (b : Bool). number_of (cond b (Err NoTicketLeft) (Ok tt))) e) ∙ h in
         absurd (omega arith)
 
 no_record : (n : ℕ) → record_of (withdrawal n) ≡ 0
 no_record n = go (eqb n 0)
   where
-    go : (b : Bool) → record_of (cond b NoTicketLeft Accepted) ≡ 0
+    go : (b : Bool) → record_of (cond b (Err NoTicketLeft) (Ok tt)) ≡ 0
     go true = refl
     go false = refl
 

@@ -1,5 +1,6 @@
 -- A kept account tells of the file with its tickets put in; and its positions with one row more and one less.
 -- Assumes nothing.
+use Rattle.std.specs.Prelude.{Ok}
 use Prim.Native.Nat.{ℕ, suc, ◌+◌, ◌-◌, ◌≤◌, ◌<◌}
 use mathlib.Core.Path.{◌≡◌, refl, sym, ap, ◌∙◌, subst, subst⁻¹}
 use mathlib.Core.Bool.{Bool, true, false}
@@ -22,7 +23,6 @@ use Rattle.account.specs.code.Standing.{Stands, PartOf}
 use Rattle.account.specs.Joined.{account_of}
 use Rattle.account.specs.declared.accounts.Account.{Account}
 use Rattle.account.specs.declared.rates.Rates.{Rates}
-use Rattle.account.specs.declared.answers.Answer.TheVariants.{Accepted}
 use Rattle.account.proofs.Earlier.{cut_more}
 use Rattle.account.proofs.Alone.{lawful}
 use Rattle.account.proofs.Places.{alone}
@@ -263,8 +263,8 @@ module _ (t : Record) (whole more : List Record) (one : OneRowMore t whole more)
     before_is q e = subst⁻¹ (PositionOf held u (prompts_of c whole) (rows_of c whole)) (e b added_last) b_is
 
 -- ---- a ticket that is accepted
-module _ (file : List ℕ) (ts : List Record) (t : Record) (ok : checked (with_tickets file ts) ≡ Accepted)
-    (h : ticket_checked (with_tickets file ts) t ≡ Accepted) where
+module _ (file : List ℕ) (ts : List Record) (t : Record) (ok : checked (with_tickets file ts) ≡ Ok tt)
+    (h : ticket_checked (with_tickets file ts) t ≡ Ok tt) where
   pub one_kept : OneRowMore t (records (with_tickets file ts)) (records (with_tickets file (ts ++ t ∷ [])))
   one_kept =
       subst⁻¹ (λ (b : List ℕ). OneRowMore t (records (with_tickets file ts)) (records b)) (tickets_last file ts t)
@@ -276,7 +276,7 @@ module _ (file : List ℕ) (ts : List Record) (t : Record) (ok : checked (with_t
   pub law_after : Lawful (records (with_tickets file (ts ++ t ∷ [])))
   law_after =
       lawful (with_tickets file (ts ++ t ∷ []))
-      (subst⁻¹ (λ (b : List ℕ). checked b ≡ Accepted) (tickets_last file ts t) (taken_one (with_tickets file ts) t ok h))
+      (subst⁻¹ (λ (b : List ℕ). checked b ≡ Ok tt) (tickets_last file ts t) (taken_one (with_tickets file ts) t ok h))
 
   pub low_kept : contract t ≤ most_contract
   low_kept = low file ts t ok h
@@ -298,7 +298,7 @@ module _ (standing whole : List Record) (b : Besides standing whole) (law : Lawf
 
 -- ---- the row's contract, as the code reads it
 module _ (file : List ℕ) (account : Account) (none : List ℕ) (st : Stands file none account) (ts : List Record) (t : Record)
-    (ok : checked (with_tickets file ts) ≡ Accepted) (h : ticket_checked (with_tickets file ts) t ≡ Accepted)
+    (ok : checked (with_tickets file ts) ≡ Ok tt) (h : ticket_checked (with_tickets file ts) t ≡ Ok tt)
     (b : Besides (account_of file none) (records (with_tickets file ts))) where
   abbrev standing : List Record
   standing = account_of file none

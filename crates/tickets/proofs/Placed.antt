@@ -1,6 +1,7 @@
 -- A ticket put into the bytes of an accepted file: the records are those of the file with the ticket at its place, and the check of the
 -- longer file says what the ticket is refused for.
 -- Assumes nothing.
+use Rattle.std.specs.Prelude.{Ok, Err}
 use Prim.Native.Nat.{ℕ, zero, suc, ◌+◌, ◌-◌, ◌*◌, ◌%◌, ◌≤◌, ◌<◌}
 use mathlib.Core.Path.{◌≡◌, refl, sym, ap, ap₂, ◌∙◌, subst⁻¹}
 use mathlib.Core.Bool.{Bool, true, false, not, ◌&&◌, cond}
@@ -22,8 +23,8 @@ use Rattle.account.specs.Checked.{rate_refusals, rate_fault_of, first_rate_fault
 use Rattle.account.specs.Parts.{of_kind, rates_of}
 use Rattle.account.specs.Products.{has_rate, conversion_beyond}
 use Rattle.account.specs.Records.{cut, record_at, records, record_count, earlier}
-use Rattle.account.specs.declared.answers.Answer.{Answer}
-use Rattle.account.specs.declared.answers.Answer.TheVariants.{Accepted, TooLong, CutRecord, UnknownKind}
+use Rattle.account.specs.Answers.{Answer}
+use Rattle.account.specs.declared.answers.Refusal.TheVariants.{TooLong, CutRecord, UnknownKind}
 use Rattle.account.proofs.AcceptedOnly.{accepted_only}
 use Rattle.account.proofs.Earlier.{cut_more, take-cut}
 use Rattle.account.proofs.Exactly.{exactly}
@@ -68,22 +69,22 @@ before_last t [] es e b = b
 before_last t (x ∷ xs) es e b = before_last t xs (x ∷ es) e.1 e.0
 
 -- ---- the records first, then the rates
-records_first : (file : List ℕ) → checked file ≡ Accepted → (records_checked file ≡ Accepted) × (rates_checked (records file) ≡ Accepted)
+records_first : (file : List ℕ) → checked file ≡ Ok tt → (records_checked file ≡ Ok tt) × (rates_checked (records file) ≡ Ok tt)
 records_first file ok = go (eqb (number_of (records_checked file)) 0) refl
   where
-    go : (b : Bool) → eqb (number_of (records_checked file)) 0 ≡ b → (records_checked file ≡ Accepted) × (rates_checked (records file) ≡ Accepted)
+    go : (b : Bool) → eqb (number_of (records_checked file)) 0 ≡ b → (records_checked file ≡ Ok tt) × (rates_checked (records file) ≡ Ok tt)
     go true e = (
       accepted_only (records_checked file) (eqb-true _ _ e),
       sym (ap (λ (b : Bool). cond b (rates_checked (records file)) (records_checked file)) e) ∙ ok,
     )
     go false e =
-        let z : records_checked file ≡ Accepted = sym (ap (λ (b : Bool). cond b (rates_checked (records file)) (records_checked file)) e) ∙ ok in
+        let z : records_checked file ≡ (Ok tt) = sym (ap (λ (b : Bool). cond b (rates_checked (records file)) (records_checked file)) e) ∙ ok in
         absurd (eqb-false _ _ e (ap number_of z))
 
 -- ---- the rates of a longer list
 two_next :
-    (a b : Bool) (k : ℕ) (later : Answer) → or_else (first_of (14 when a ∷ 15 when b ∷ [])) k later ≡ Accepted
-    → (first_of (14 when a ∷ 15 when b ∷ []) ≡ 0) × (later ≡ Accepted)
+    (a b : Bool) (k : ℕ) (later : Answer) → or_else (first_of (14 when a ∷ 15 when b ∷ [])) k later ≡ Ok tt
+    → (first_of (14 when a ∷ 15 when b ∷ []) ≡ 0) × (later ≡ Ok tt)
 two_next true b k later h =
     let z : ◌≡◌ {A = ℕ} 14 0 = ap number_of h in
     absurd (omega arith)
@@ -92,18 +93,18 @@ two_next false true k later h =
     absurd (omega arith)
 two_next false false k later h = (refl, h)
 
-any_place : (rates : List Record) (k m : ℕ) (rs : List Record) → first_rate_fault k rates rs ≡ Accepted → first_rate_fault m rates rs ≡ Accepted
+any_place : (rates : List Record) (k m : ℕ) (rs : List Record) → first_rate_fault k rates rs ≡ Ok tt → first_rate_fault m rates rs ≡ Ok tt
 any_place rates k m [] h = refl
 any_place rates k m (r ∷ rs) h =
     let a = two_next (of_kind 3 r && not (has_rate rates r)) (of_kind 3 r && conversion_beyond rates r) k (first_rate_fault (k + 1) rates rs) h in
     no_fault (rate_fault_of rates r) m (first_rate_fault (m + 1) rates rs) a.0 ∙ any_place rates (k + 1) (m + 1) rs a.1
 
 rates_with :
-    (rates : List Record) (t : Record) (n : ℕ) (rs : List Record) → n ≤ length rs → first_rate_fault 0 rates rs ≡ Accepted
-    → first_rate_fault 0 rates (take n rs ++ t ∷ drop n rs) ≡ or_else (rate_fault_of rates t) n Accepted
+    (rates : List Record) (t : Record) (n : ℕ) (rs : List Record) → n ≤ length rs → first_rate_fault 0 rates rs ≡ Ok tt
+    → first_rate_fault 0 rates (take n rs ++ t ∷ drop n rs) ≡ or_else (rate_fault_of rates t) n (Ok tt)
 rates_with rates t n rs few h = go (eqb (number_of (first_rate_fault 0 rates (take n rs))) 0) refl
   where
-    both_parts : first_rate_fault 0 rates (take n rs ++ drop n rs) ≡ Accepted
+    both_parts : first_rate_fault 0 rates (take n rs ++ drop n rs) ≡ Ok tt
     both_parts = ap (first_rate_fault 0 rates) (take-append-drop n rs) ∙ h
 
     long : 0 + length (take n rs) ≡ n
@@ -111,7 +112,7 @@ rates_with rates t n rs few h = go (eqb (number_of (first_rate_fault 0 rates (ta
 
     go :
         (b : Bool) → eqb (number_of (first_rate_fault 0 rates (take n rs))) 0 ≡ b
-        → first_rate_fault 0 rates (take n rs ++ t ∷ drop n rs) ≡ or_else (rate_fault_of rates t) n Accepted
+        → first_rate_fault 0 rates (take n rs ++ t ∷ drop n rs) ≡ or_else (rate_fault_of rates t) n (Ok tt)
     go true e =
         let z = eqb-true (number_of (first_rate_fault 0 rates (take n rs))) 0 e in
         let later = sym (pass rates 0 (take n rs) (drop n rs) z) ∙ both_parts in
@@ -129,9 +130,9 @@ five es t =
 
 two_stages :
     (a b c d e : Bool) (rest : List Refusal) (k : ℕ)
-    → cond (eqb (number_of (or_else (first_of (5 when a ∷ 6 when b ∷ 7 when c ∷ 8 when d ∷ 9 when e ∷ [])) k Accepted)) 0)
-    (or_else (first_of rest) k Accepted) (or_else (first_of (5 when a ∷ 6 when b ∷ 7 when c ∷ 8 when d ∷ 9 when e ∷ [])) k Accepted)
-    ≡ or_else (first_of (5 when a ∷ 6 when b ∷ 7 when c ∷ 8 when d ∷ 9 when e ∷ rest)) k Accepted
+    → cond (eqb (number_of (or_else (first_of (5 when a ∷ 6 when b ∷ 7 when c ∷ 8 when d ∷ 9 when e ∷ [])) k (Ok tt))) 0)
+    (or_else (first_of rest) k (Ok tt)) (or_else (first_of (5 when a ∷ 6 when b ∷ 7 when c ∷ 8 when d ∷ 9 when e ∷ [])) k (Ok tt))
+    ≡ or_else (first_of (5 when a ∷ 6 when b ∷ 7 when c ∷ 8 when d ∷ 9 when e ∷ rest)) k (Ok tt)
 two_stages true b c d e rest k = refl
 two_stages false true c d e rest k = refl
 two_stages false false true d e rest k = refl
@@ -150,7 +151,7 @@ five_none false false false false true rest h = absurd (omega arith)
 five_none false false false false false rest h = refl
 
 -- ---- an accepted file
-module _ (file : List ℕ) (ok : checked file ≡ Accepted) where
+module _ (file : List ℕ) (ok : checked file ≡ Ok tt) where
   abbrev n : ℕ
   n = record_count file
 
@@ -159,9 +160,9 @@ module _ (file : List ℕ) (ok : checked file ≡ Accepted) where
     pub whole : cut_record file ≡ false
     pub bytes : length file ≡ n * record_bytes
     pub few : n ≤ most_records
-    pub recorded : records_checked file ≡ Accepted
-    pub clean : first_fault 0 [] (records file) ≡ Accepted
-    pub rated : rates_checked (records file) ≡ Accepted
+    pub recorded : records_checked file ≡ Ok tt
+    pub clean : first_fault 0 [] (records file) ≡ Ok tt
+    pub rated : rates_checked (records file) ≡ Ok tt
 
   pub plain : Plain
   plain =
@@ -245,15 +246,15 @@ module _ (file : List ℕ) (ok : checked file ≡ Accepted) where
             ap (λ (b : Bool). cond b 3 (cond (kind_falls (the_one_before es) t) 4 (five es t))) (row_known t row)
             ∙ ap (λ (b : Bool). cond b 4 (five es t)) (never_4 t row (the_one_before es) before_at_lem)
 
-        by_row : first_fault 0 [] (records (with_ticket file t)) ≡ or_else (five (ahead file t) t) p Accepted
+        by_row : first_fault 0 [] (records (with_ticket file t)) ≡ or_else (five (ahead file t) t) p (Ok tt)
         by_row =
             let z : 0 + p ≡ p = omega arith in
             ap (first_fault 0 []) records_with
             ∙ inserted t row 0 [] (records file) plain.clean
-            ∙ ap₂ (λ (es : List Record) (i : ℕ). or_else (fault_of es t) i Accepted) (sym ahead_is) z
-            ∙ ap (λ (i : ℕ). or_else i p Accepted) fault_is
+            ∙ ap₂ (λ (es : List Record) (i : ℕ). or_else (fault_of es t) i (Ok tt)) (sym ahead_is) z
+            ∙ ap (λ (i : ℕ). or_else i p (Ok tt)) fault_is
 
-        by_rates : rates_checked (records (with_ticket file t)) ≡ or_else (rate_fault_of (rates_of (records file)) t) p Accepted
+        by_rates : rates_checked (records (with_ticket file t)) ≡ or_else (rate_fault_of (rates_of (records file)) t) p (Ok tt)
         by_rates =
             ap rates_checked records_with
             ∙ ap (λ (rates : List Record). first_rate_fault 0 rates (take p (records file) ++ t ∷ drop p (records file))) (rates_same t row p (records file))
@@ -262,13 +263,13 @@ module _ (file : List ℕ) (ok : checked file ≡ Accepted) where
         not-cut : cut_record (with_ticket file t) ≡ false
         not-cut = ap not (eq-eqb (length (with_ticket file t) % record_bytes) 0 (omega (arith, length_with, plain.bytes)))
 
-        told : (f : Bool) → full_with file ≡ f → ticket_checked file t ≡ or_else (row_fault file t) p (cond f TooLong Accepted)
+        told : (f : Bool) → full_with file ≡ f → ticket_checked file t ≡ or_else (row_fault file t) p (cond f (Err TooLong) (Ok tt))
         told f e =
             let k = p in
-            ap (λ (b : Bool). cond (not b) CutRecord
-            (cond (not_row t) (UnknownKind k) (or_else (row_fault file t) k (cond (full_with file) TooLong Accepted)))) (eq-eqb (length t) record_bytes whole)
-            ∙ ap (λ (b : Bool). cond (not b) (UnknownKind k) (or_else (row_fault file t) k (cond (full_with file) TooLong Accepted))) (eq-eqb (kind t) 3 row)
-            ∙ ap (λ (b : Bool). or_else (row_fault file t) k (cond b TooLong Accepted)) e
+            ap (λ (b : Bool). cond (not b) (Err CutRecord)
+            (cond (not_row t) (Err (UnknownKind k)) (or_else (row_fault file t) k (cond (full_with file) (Err TooLong) (Ok tt))))) (eq-eqb (length t) record_bytes whole)
+            ∙ ap (λ (b : Bool). cond (not b) (Err (UnknownKind k)) (or_else (row_fault file t) k (cond (full_with file) (Err TooLong) (Ok tt)))) (eq-eqb (kind t) 3 row)
+            ∙ ap (λ (b : Bool). or_else (row_fault file t) k (cond b (Err TooLong) (Ok tt))) e
 
         -- with room for one record more, the two say the same
         pub checked_with : n < most_records → checked (with_ticket file t) ≡ ticket_checked file t
@@ -282,6 +283,6 @@ module _ (file : List ℕ) (ok : checked file ≡ Accepted) where
             ∙ sym (told false (lt-leb most_records n room))
 
         -- and without, the longer file is too long
-        pub full_with_lem : most_records ≤ n → checked (with_ticket file t) ≡ TooLong
+        pub full_with_lem : most_records ≤ n → checked (with_ticket file t) ≡ Err TooLong
         full_with_lem full = ap (λ (a : Answer). cond (eqb (number_of a) 0) (rates_checked (records (with_ticket file t))) a)
             (too_long_lem (with_ticket file t) (lt-ltb 61440 (length (with_ticket file t)) (omega (arith, length_with, plain.bytes))))

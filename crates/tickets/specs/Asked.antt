@@ -1,12 +1,12 @@
 -- Request 2026-07: "A dealer asks what one more row does to an account." The margin before and after a ticket, and before and after a
 -- withdrawal, over plain bytes: a file, the tickets put in so far, and the one asked about.
 -- Assumes nothing.
-use Rattle.std.specs.Prelude.{ℕ, ◌+◌, ◌-◌, ◌/◌, cond, List, [], ◌∷◌, eqb, length, take}
+use Rattle.std.specs.Prelude.{ℕ, ◌+◌, ◌-◌, ◌/◌, cond, List, [], ◌∷◌, eqb, length, take, Ok, Err}
 use Rattle.record.specs.Layout.{Record, record_bytes}
 use Rattle.account.specs.Checked.{checked}
 use Rattle.account.specs.Records.{records, cut}
-use Rattle.account.specs.declared.answers.Answer.{Answer}
-use Rattle.account.specs.declared.answers.Answer.TheVariants.{Accepted, NoTicketLeft}
+use Rattle.account.specs.Answers.{Answer}
+use Rattle.account.specs.declared.answers.Refusal.TheVariants.{NoTicketLeft}
 use Rattle.margin.specs.Figures.{account_total}
 use Rattle.margin.specs.Questions.{not_refused}
 use Rattle.tickets.specs.Ticket.{with_ticket, with_tickets, ticket_checked}
@@ -23,7 +23,7 @@ of n a = record { ticket = n; answer = a }
 
 -- tickets in turn, each put in where it is accepted: the first refusal, or how many there are
 abbrev pub one_by_one : ℕ → List ℕ → List Record → Ticketed
-one_by_one n file [] = of n Accepted
+one_by_one n file [] = of n (Ok tt)
 one_by_one n file (ticket ∷ tickets) =
     cond (not_refused (ticket_checked file ticket)) (one_by_one (n + 1) (with_ticket file ticket) tickets) (of (n + 1) (ticket_checked file ticket))
 
@@ -39,7 +39,7 @@ abbrev pub refused_by : Ticketed → Asked
 refused_by v = record { ticket = v.ticket; answer = v.answer; before = record { 0 = 0 }; after = record { 0 = 0 } }
 
 abbrev pub answered_by : ℕ → ℕ → ℕ → Asked
-answered_by n before after = record { ticket = n; answer = Accepted; before = record { 0 = before }; after = record { 0 = after } }
+answered_by n before after = record { ticket = n; answer = Ok tt; before = record { 0 = before }; after = record { 0 = after } }
 
 -- one ticket more
 abbrev pub asked_about : List ℕ → List Record → Record → Asked
@@ -57,6 +57,6 @@ abbrev pub withdrawn_from : List ℕ → List Record → Asked
 withdrawn_from file tickets =
     let v = standing file tickets in
     cond (not_refused v.answer)
-    (cond (eqb v.ticket 0) (refused_by (of 0 NoTicketLeft))
+    (cond (eqb v.ticket 0) (refused_by (of 0 (Err NoTicketLeft)))
     (answered_by v.ticket (margin_total (with_tickets file tickets)) (margin_total (with_tickets file (take (length tickets - 1) tickets)))))
     (refused_by v)

@@ -1,6 +1,6 @@
 -- What request 2026-07 asks of a ticket, as claims about the definitions.
 -- Assumes nothing.
-use Rattle.std.specs.Prelude.{ℕ, ◌≤◌, ◌<◌, ◌≡◌, true, false, List, [], ◌∷◌, ◌++◌, length, take, drop}
+use Rattle.std.specs.Prelude.{ℕ, ◌≤◌, ◌<◌, ◌≡◌, true, false, List, [], ◌∷◌, ◌++◌, length, take, drop, Ok}
 use Rattle.record.specs.Layout.{Record, record_bytes, kind, contract}
 use Rattle.account.specs.Answers.{number_of, record_of}
 use Rattle.account.specs.Check.{the_one_before, kind_falls, out_of_order, most_records}
@@ -9,7 +9,6 @@ use Rattle.exact.specs.Iff.{Iff}
 use Rattle.account.specs.Claims.{given_in}
 use Rattle.account.specs.Parts.{contracts_of, prompts_of, rows_of, spreads_of, entries_of, rates_of}
 use Rattle.account.specs.Records.{records, record_count}
-use Rattle.account.specs.declared.answers.Answer.TheVariants.{Accepted}
 use Rattle.tickets.specs.Ticket.{place, with_ticket, ahead, row_refusals, ticket_checked}
 
 -- ---- "that row put last among its contract's rows": one row more, and nothing else
@@ -31,7 +30,7 @@ pub record PutIn (file : List ℕ) (ticket : Record) : Type 0 where
   pub parts : OneRowMore ticket (records file) (records (with_ticket file ticket))
   -- with room for one record more, what the ticket is told
   pub says : record_count file < most_records → checked (with_ticket file ticket) ≡ ticket_checked file ticket
-  pub accepted : Iff (ticket_checked file ticket ≡ Accepted) (checked (with_ticket file ticket) ≡ Accepted)
+  pub accepted : Iff (ticket_checked file ticket ≡ Ok tt) (checked (with_ticket file ticket) ≡ Ok tt)
   -- 4 and 8 do not occur at its place
   pub never_4 : kind_falls (the_one_before (ahead file ticket)) ticket ≡ false
   pub never_8 : out_of_order (the_one_before (ahead file ticket)) ticket ≡ false
@@ -63,4 +62,4 @@ pub record Exactly (file : List ℕ) (ticket : Record) : Type 0 where
 
 pub record Claims (file : List ℕ) (ticket : Record) : Type 0 where
   pub exactly : Exactly file ticket
-  pub put_in : checked file ≡ Accepted → TicketRow ticket → PutIn file ticket
+  pub put_in : checked file ≡ Ok tt → TicketRow ticket → PutIn file ticket

@@ -1,6 +1,6 @@
 -- Request 2026-07, "One ticket more": a row that is put into an account file, and what it is refused for.
 -- Assumes nothing.
-use Rattle.std.specs.Prelude.{ℕ, ◌*◌, Bool, not, ◌&&◌, ◌||◌, cond, List, [], ◌∷◌, ◌++◌, eqb, leb, length, take, drop}
+use Rattle.std.specs.Prelude.{ℕ, ◌*◌, Bool, not, ◌&&◌, ◌||◌, cond, List, [], ◌∷◌, ◌++◌, eqb, leb, length, take, drop, Ok, Err}
 use Rattle.exact.specs.Lists.{count}
 use Rattle.record.specs.Layout.{Record, record_bytes, contract}
 use Rattle.record.specs.Ranges.{unused_byte, field_outside}
@@ -8,8 +8,8 @@ use Rattle.account.specs.Check.{the_one_before, unlisted, out_of_order, over_lim
 use Rattle.account.specs.Checked.{rate_refusals}
 use Rattle.account.specs.Parts.{of_kind, rates_of}
 use Rattle.account.specs.Records.{records, record_count, earlier}
-use Rattle.account.specs.declared.answers.Answer.{Answer}
-use Rattle.account.specs.declared.answers.Answer.TheVariants.{Accepted, TooLong, CutRecord, UnknownKind}
+use Rattle.account.specs.Answers.{Answer}
+use Rattle.account.specs.declared.answers.Refusal.TheVariants.{TooLong, CutRecord, UnknownKind}
 
 -- "its would-be place, after kinds 1 and 2 and every row whose byte 1 is not above its own"
 abbrev pub stands_before : Record → Record → Bool
@@ -58,7 +58,7 @@ full_with file = leb most_records (record_count file)
 abbrev pub ticket_checked : List ℕ → Record → Answer
 ticket_checked file ticket =
     let k = place ticket (records file) in
-    cond (cut_ticket ticket) CutRecord
-    (cond (not_row ticket) (UnknownKind k)
+    cond (cut_ticket ticket) (Err CutRecord)
+    (cond (not_row ticket) (Err (UnknownKind k))
     (or_else (row_fault file ticket) k
-    (cond (full_with file) TooLong Accepted)))
+    (cond (full_with file) (Err TooLong) (Ok tt))))

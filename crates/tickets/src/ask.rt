@@ -6,7 +6,7 @@ ghost use Rattle.tickets.specs.code.Kept.{KeptBy};
 
 use crate::kept::{Kept, add, keep, kept_total, withdraw};
 use account::accounts::check_file;
-use account::answers::{Answer, number_of};
+use account::answers::{Refusal, number_of};
 use account::stretches::record_at;
 use formulas::amount::Amount;
 use record::bytes::RECORD_BYTES;
@@ -15,14 +15,14 @@ use record::bytes::RECORD_BYTES;
 #[derive(Clone, Copy)]
 pub struct Ticketed {
     pub ticket: usize,
-    pub answer: Answer,
+    pub answer: Result<(), Refusal>,
 }
 
 // The same with the total of the margins before and after; both 0 where something is refused.
 #[derive(Clone, Copy)]
 pub struct Asked {
     pub ticket: usize,
-    pub answer: Answer,
+    pub answer: Result<(), Refusal>,
     pub before: Amount,
     pub after: Amount,
 }
@@ -31,11 +31,11 @@ pub struct Asked {
 #[derive(Clone, Copy)]
 pub struct Holding {
     pub ticket: usize,
-    pub answer: Answer,
+    pub answer: Result<(), Refusal>,
     pub kept: Kept,
 }
 
-fn refused(ticket: usize, answer: Answer) -> Asked
+fn refused(ticket: usize, answer: Result<(), Refusal>) -> Asked
     ensures { result ≡ refused_by (of ticket answer) }
 {
     Asked {
@@ -81,7 +81,7 @@ fn put_in(file: &[u8], kept: Kept, tickets: &[u8]) -> Holding
     }
     Holding {
         ticket: count,
-        answer: Answer::Accepted,
+        answer: Ok(()),
         kept: held,
     }
 }

@@ -9,13 +9,12 @@ ghost use Rattle.account.specs.Parts.{prompts_of};
 ghost use Rattle.account.specs.Records.{records};
 ghost use Rattle.account.specs.code.Standing.{Stands, Filled, CheckedBy};
 ghost use Rattle.account.specs.Joined.{account_of};
-ghost use Rattle.account.specs.declared.answers.Answer.TheVariants.{Accepted};
 ghost use Rattle.account.specs.PartNumbers.{part};
 ghost use Rattle.tickets.specs.code.Counts.{CountsOf, CountedIn, SmallCounts, row_fault_by, OneMore, OneLess};
 ghost use Rattle.tickets.specs.Ticket.{place, with_tickets, ticket_checked};
 
 use account::accounts::{Account, contract_total, part, part_total, record_total};
-use account::answers::{Answer, number_of, refusal};
+use account::answers::{Refusal, number_of, refusal_of};
 use account::check::MOST_RECORDS;
 use account::conversions::row_answer;
 use account::limits::MOST_ROWS;
@@ -86,7 +85,7 @@ fn sum_of(numbers: &[usize], n: usize) -> usize
 
 // The counts of a file without tickets.
 pub fn counts_of<'a>(file: &'a [u8], none: &'a [u8], account: Account) -> Counts
-    requires { (none.now ≡ []) × CheckedBy file.now (record { answer = Accepted; account = account }) }
+    requires { (none.now ≡ []) × CheckedBy file.now (record { answer = Ok tt; account = account }) }
     ensures { CountsOf file.now [] result }
 {
     let prompts = totals_of(account, PROMPTS);
@@ -143,24 +142,24 @@ fn row_fault<'a>(file: &'a [u8], none: &'a [u8], account: Account, rows: usize, 
 }
 
 // What a ticket is told.
-pub fn check_ticket<'a>(file: &'a [u8], none: &'a [u8], counts: Counts, ticket: &[u8]) -> Answer
+pub fn check_ticket<'a>(file: &'a [u8], none: &'a [u8], counts: Counts, ticket: &[u8]) -> Result<(), Refusal>
     requires { (none.now ≡ []) × CountedIn file.now counts }
     ensures { (tickets : List Record) → CountsOf file.now tickets counts → result ≡ ticket_checked (with_tickets file.now tickets)
         ticket.now }
 {
     if ticket.len() != RECORD_BYTES {
-        return Answer::CutRecord;
+        return Err(Refusal::CutRecord);
     }
     let c = contract(ticket);
     let k = place_of(counts, c);
     if kind(ticket) != 3 {
-        return Answer::UnknownKind(k);
+        return Err(Refusal::UnknownKind(k));
     }
     let account = counts.account;
     let rows = counts.rows;
     let number = row_fault(file, none, account, number_at(&rows, c), ticket);
     if number != 0 {
-        return refusal(number, k);
+        return refusal_of(number, k);
     }
     let rates = part(file, none, account, RATES);
     let answer = row_answer(rates_of(rates), ticket, k);
@@ -168,9 +167,9 @@ pub fn check_ticket<'a>(file: &'a [u8], none: &'a [u8], counts: Counts, ticket: 
         return answer;
     }
     if MOST_RECORDS <= record_total(account) + counts.tickets {
-        return Answer::TooLong;
+        return Err(Refusal::TooLong);
     }
-    Answer::Accepted
+    Ok(())
 }
 
 // The place at which a ticket would stand.

@@ -4,7 +4,6 @@ ghost use Rattle.std.specs.Prelude.{◌≡◌, List, [], ◌∷◌, ◌++◌, �
 ghost use Rattle.record.specs.Layout.{Record};
 ghost use Rattle.account.specs.Records.{records, cut};
 ghost use Rattle.account.specs.code.Standing.{CheckedBy};
-ghost use Rattle.account.specs.declared.answers.Answer.TheVariants.{Accepted};
 ghost use Rattle.margin.specs.Figures.{account_total};
 ghost use Rattle.margin.specs.code.Lent.{EverythingOf};
 ghost use Rattle.margin.specs.code.Positions.{PositionsOf};
@@ -14,7 +13,7 @@ ghost use Rattle.tickets.specs.Ticket.{with_tickets};
 
 use crate::counts::{Counts, account_of, check_ticket, counts_of, one_less, one_more, tickets_of};
 use account::accounts::{Account, nothing_of, part};
-use account::answers::{Answer, number_of};
+use account::answers::{Refusal, number_of};
 use account::parts::{OWN, PROMPTS, RATES};
 use account::rates::rates_of;
 use account::stretches::record_at;
@@ -35,13 +34,13 @@ pub struct Kept {
 // What a call is told, and the account kept afterwards.
 #[derive(Clone, Copy)]
 pub struct Keeping {
-    pub answer: Answer,
+    pub answer: Result<(), Refusal>,
     pub kept: Kept,
 }
 
 // The account that the check of an accepted file handed out, kept, without tickets.
 pub fn keep(file: &[u8], account: Account) -> Kept
-    requires { CheckedBy file.now (record { answer = Accepted; account = account }) }
+    requires { CheckedBy file.now (record { answer = Ok tt; account = account }) }
     ensures { KeptBy file.now [] result }
 {
     let none = nothing_of(file);
@@ -121,7 +120,7 @@ pub fn withdraw(file: &[u8], tickets: &[u8], kept: Kept) -> Keeping
     let count = tickets_of(counts);
     if count == 0 {
         return Keeping {
-            answer: Answer::NoTicketLeft,
+            answer: Err(Refusal::NoTicketLeft),
             kept,
         };
     }
@@ -133,7 +132,7 @@ pub fn withdraw(file: &[u8], tickets: &[u8], kept: Kept) -> Keeping
         positions,
     };
     Keeping {
-        answer: Answer::Accepted,
+        answer: Ok(()),
         kept: less,
     }
 }
@@ -149,7 +148,7 @@ pub fn kept_total(file: &[u8], kept: Kept) -> Amount
 }
 
 // A question's answer, at the front of `out`. A refusal writes nothing.
-pub fn kept_answer(file: &[u8], kept: Kept, question: Question, out: &mut [i64]) -> Answer
+pub fn kept_answer(file: &[u8], kept: Kept, question: Question, out: &mut [i64]) -> Result<(), Refusal>
     requires { Keeps file.now kept }
     ensures { (tickets : List Record) → KeptBy file.now tickets kept
         → (result ≡ answer_over (records (with_tickets file.now tickets)) question (length out.old))

@@ -1,5 +1,6 @@
 -- What comes back from the verdict on the written file and the bytes lent.
 -- Assumes nothing.
+use Rattle.std.specs.Prelude.{Ok, Err}
 use Prim.Native.Nat.{ℕ, ◌*◌, ◌≤◌, ◌<◌}
 use mathlib.Core.Path.{◌≡◌, sym, ap, ◌∙◌}
 use mathlib.Core.Bool.{Bool, true, false, cond, ◌&&◌}
@@ -14,8 +15,8 @@ use Rattle.account.specs.Answers.{number_of, record_of, refusal}
 use Rattle.account.specs.Check.{too_long, cut_record}
 use Rattle.account.specs.Checked.{rates_checked, checked}
 use Rattle.account.specs.Records.{records, record_count}
-use Rattle.account.specs.declared.answers.Answer.{Answer}
-use Rattle.account.specs.declared.answers.Answer.TheVariants.{Accepted, TooLong, CutRecord, TooFewBytes}
+use Rattle.account.specs.Answers.{Answer}
+use Rattle.account.specs.declared.answers.Refusal.TheVariants.{TooLong, CutRecord, TooFewBytes}
 use Rattle.account.proofs.NoonLaws.{accepted_only}
 use Rattle.account.proofs.Verdict.{too_long_lem, cut_short}
 use Rattle.writing.specs.Order.{places}
@@ -24,18 +25,18 @@ use Rattle.writing.specs.declared.Written.{Written}
 use Rattle.writing.proofs.Placed.{written_long, nothing_over, long_same, cut_same}
 
 -- ---- too long, and cut: as the list itself
-checked_long : (file : List ℕ) → too_long file ≡ true → checked file ≡ TooLong
+checked_long : (file : List ℕ) → too_long file ≡ true → checked file ≡ Err TooLong
 checked_long file e = ap (λ (a : Answer). cond (eqb (number_of a) 0) (rates_checked (records file)) a) (too_long_lem file e)
 
-checked-cut : (file : List ℕ) → too_long file ≡ false → cut_record file ≡ true → checked file ≡ CutRecord
+checked-cut : (file : List ℕ) → too_long file ≡ false → cut_record file ≡ true → checked file ≡ Err CutRecord
 checked-cut file e f = ap (λ (a : Answer). cond (eqb (number_of a) 0) (rates_checked (records file)) a) (cut_short file e f)
 
-long_verdict : (entries : List ℕ) → too_long entries ≡ true → verdict_on entries ≡ TooLong
+long_verdict : (entries : List ℕ) → too_long entries ≡ true → verdict_on entries ≡ Err TooLong
 long_verdict entries e =
     ap (as_entered (places entries))
     (checked_long (written entries) (long_same entries ∙ e))
 
-cut_verdict : (entries : List ℕ) → too_long entries ≡ false → cut_record entries ≡ true → verdict_on entries ≡ CutRecord
+cut_verdict : (entries : List ℕ) → too_long entries ≡ false → cut_record entries ≡ true → verdict_on entries ≡ Err CutRecord
 cut_verdict entries e f =
     ap (as_entered (places entries))
     (checked-cut (written entries) (long_same entries ∙ e) (cut_same entries ∙ f))
@@ -48,7 +49,7 @@ module _ (entries lent after : List ℕ) (w : Written) (same : after ≡ lent) w
   refuses a e nz h =
       let f : fine (verdict_on entries) ≡ false = ap fine e ∙ ne_eqb (number_of a) 0 nz in
       let is : writing_answer entries (length lent) ≡ a =
-      ap (λ (b : Bool). cond (b && ltb (length lent) (length (written entries))) TooFewBytes (verdict_on entries)) f ∙ e in
+      ap (λ (b : Bool). cond (b && ltb (length lent) (length (written entries))) (Err TooFewBytes) (verdict_on entries)) f ∙ e in
       let off : fine (writing_answer entries (length lent)) ≡ false = ap fine is ∙ ne_eqb (number_of a) 0 nz in
       record {
         answer = ap (λ (x : Written). x.answer) h ∙ sym is;
@@ -56,24 +57,24 @@ module _ (entries lent after : List ℕ) (w : Written) (same : after ≡ lent) w
         out = same ∙ sym (ap (λ (b : Bool). cond b (written entries ++ drop (length (written entries)) lent) lent) off);
       }
 
-  pub refuses_long : too_long entries ≡ true → w ≡ record { answer = TooLong; bytes = 0 } → WrittenBy entries lent w after
-  refuses_long e h = refuses TooLong (long_verdict entries e) (λ z. omega arith) h
+  pub refuses_long : too_long entries ≡ true → w ≡ record { answer = Err TooLong; bytes = 0 } → WrittenBy entries lent w after
+  refuses_long e h = refuses (Err TooLong) (long_verdict entries e) (λ z. omega arith) h
 
   pub refuses_cut :
-      too_long entries ≡ false → cut_record entries ≡ true → w ≡ record { answer = CutRecord; bytes = 0 }
+      too_long entries ≡ false → cut_record entries ≡ true → w ≡ record { answer = Err CutRecord; bytes = 0 }
       → WrittenBy entries lent w after
-  refuses_cut e f h = refuses CutRecord (cut_verdict entries e f) (λ z. omega arith) h
+  refuses_cut e f h = refuses (Err CutRecord) (cut_verdict entries e f) (λ z. omega arith) h
 
   pub refuses_room :
-      number_of (verdict_on entries) ≡ 0 → length lent < length entries → w ≡ record { answer = TooFewBytes; bytes = 0 }
+      number_of (verdict_on entries) ≡ 0 → length lent < length entries → w ≡ record { answer = Err TooFewBytes; bytes = 0 }
       → WrittenBy entries lent w after
   refuses_room z l h =
       let f : fine (verdict_on entries) ≡ true = eq-eqb (number_of (verdict_on entries)) 0 z in
       let s : ltb (length lent) (length (written entries)) ≡ true =
       lt-ltb (length lent) (length (written entries)) (omega (arith, written_long entries)) in
-      let is : writing_answer entries (length lent) ≡ TooFewBytes =
-      ap (λ (b : Bool). cond (b && ltb (length lent) (length (written entries))) TooFewBytes (verdict_on entries)) f
-      ∙ ap (λ (b : Bool). cond b TooFewBytes (verdict_on entries)) s in
+      let is : writing_answer entries (length lent) ≡ (Err TooFewBytes) =
+      ap (λ (b : Bool). cond (b && ltb (length lent) (length (written entries))) (Err TooFewBytes) (verdict_on entries)) f
+      ∙ ap (λ (b : Bool). cond b (Err TooFewBytes) (verdict_on entries)) s in
       let off : fine (writing_answer entries (length lent)) ≡ false = ap fine is in
       record {
         answer = ap (λ (x : Written). x.answer) h ∙ sym is;
@@ -84,14 +85,14 @@ module _ (entries lent after : List ℕ) (w : Written) (same : after ≡ lent) w
 pub writes :
     (entries lent after : List ℕ) (w : Written) → cut_record entries ≡ false → number_of (verdict_on entries) ≡ 0
     → length entries ≤ length lent → after ≡ filled_in entries 0 (record_count entries) lent
-    → w.answer ≡ Accepted → w.bytes ≡ length entries → WrittenBy entries lent w after
+    → w.answer ≡ Ok tt → w.bytes ≡ length entries → WrittenBy entries lent w after
 writes entries lent after w whole z l h ha hb =
     let f : fine (verdict_on entries) ≡ true = eq-eqb (number_of (verdict_on entries)) 0 z in
     let s : ltb (length lent) (length (written entries)) ≡ false =
     le-ltb (length lent) (length (written entries)) (omega (arith, written_long entries)) in
-    let is : writing_answer entries (length lent) ≡ Accepted =
-    ap (λ (b : Bool). cond (b && ltb (length lent) (length (written entries))) TooFewBytes (verdict_on entries)) f
-    ∙ ap (λ (b : Bool). cond b TooFewBytes (verdict_on entries)) s ∙ accepted_only (verdict_on entries) z in
+    let is : writing_answer entries (length lent) ≡ (Ok tt) =
+    ap (λ (b : Bool). cond (b && ltb (length lent) (length (written entries))) (Err TooFewBytes) (verdict_on entries)) f
+    ∙ ap (λ (b : Bool). cond b (Err TooFewBytes) (verdict_on entries)) s ∙ accepted_only (verdict_on entries) z in
     let on : fine (writing_answer entries (length lent)) ≡ true = ap fine is in
     let n : record_count entries * record_bytes ≡ length (written entries) = nothing_over entries whole ∙ sym (written_long entries) in
     record {

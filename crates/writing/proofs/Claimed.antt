@@ -1,5 +1,6 @@
 -- The claims of the writer.
 -- Assumes nothing.
+use Rattle.std.specs.Prelude.{Ok, Err}
 use Prim.Native.Nat.{ℕ, zero, suc, ◌+◌, ◌*◌, ◌≤◌, ◌<◌}
 use mathlib.Core.Logic.{◌⊎◌, ⊎_elim}
 use mathlib.Core.Path.{◌≡◌, refl, sym, ap, subst⁻¹, ◌∙◌}
@@ -19,8 +20,8 @@ use Rattle.account.specs.Check.{kind_falls, the_one_before}
 use Rattle.account.specs.Checked.{checked}
 use Rattle.account.specs.Claims.{Gives, First, Exactly}
 use Rattle.account.specs.Records.{record_at, record_count, earlier}
-use Rattle.account.specs.declared.answers.Answer.{Answer}
-use Rattle.account.specs.declared.answers.Answer.TheVariants.{Accepted, TooFewBytes}
+use Rattle.account.specs.Answers.{Answer}
+use Rattle.account.specs.declared.answers.Refusal.TheVariants.{TooFewBytes}
 use Rattle.account.proofs.Claimed as account
 use Rattle.account.proofs.Firsts.{number_refusal, record_refusal}
 use Rattle.account.proofs.NoonLaws.{accepted_only}
@@ -75,21 +76,21 @@ module _ (entries : List ℕ) where
   module _ (lent : ℕ) where
     refused : (number_of told ≡ 0 → ⊥) → writing_answer entries lent ≡ verdict_on entries
     refused nz =
-        ap (λ (b : Bool). cond (b && ltb lent (length W)) TooFewBytes (verdict_on entries))
+        ap (λ (b : Bool). cond (b && ltb lent (length W)) (Err TooFewBytes) (verdict_on entries))
         (ne_eqb (number_of (verdict_on entries)) 0 (λ z. nz (sym same_number ∙ z)))
 
-    passes : number_of told ≡ 0 → writing_answer entries lent ≡ cond (ltb lent (length W)) TooFewBytes (verdict_on entries)
+    passes : number_of told ≡ 0 → writing_answer entries lent ≡ cond (ltb lent (length W)) (Err TooFewBytes) (verdict_on entries)
     passes z =
-        ap (λ (b : Bool). cond (b && ltb lent (length W)) TooFewBytes (verdict_on entries))
+        ap (λ (b : Bool). cond (b && ltb lent (length W)) (Err TooFewBytes) (verdict_on entries))
         (eq-eqb (number_of (verdict_on entries)) 0 (same_number ∙ z))
 
-    short : number_of told ≡ 0 → lent < length entries → writing_answer entries lent ≡ TooFewBytes
+    short : number_of told ≡ 0 → lent < length entries → writing_answer entries lent ≡ Err TooFewBytes
     short z h =
-        passes z ∙ ap (λ (b : Bool). cond b TooFewBytes (verdict_on entries)) (lt-ltb lent (length W) (omega (arith, written_long entries)))
+        passes z ∙ ap (λ (b : Bool). cond b (Err TooFewBytes) (verdict_on entries)) (lt-ltb lent (length W) (omega (arith, written_long entries)))
 
-    enough : number_of told ≡ 0 → length entries ≤ lent → writing_answer entries lent ≡ Accepted
+    enough : number_of told ≡ 0 → length entries ≤ lent → writing_answer entries lent ≡ Ok tt
     enough z h =
-        passes z ∙ ap (λ (b : Bool). cond b TooFewBytes (verdict_on entries)) (le-ltb lent (length W) (omega (arith, written_long entries)))
+        passes z ∙ ap (λ (b : Bool). cond b (Err TooFewBytes) (verdict_on entries)) (le-ltb lent (length W) (omega (arith, written_long entries)))
         ∙ early (omega arith) ∙ accepted_only told z
 
     -- which of the three it is

@@ -1,5 +1,6 @@
 -- The check of the written file on its way: as the check of a file, with the prompts of one contract at hand.
 -- Assumes nothing.
+use Rattle.std.specs.Prelude.{Ok}
 use Prim.Native.Nat.{ℕ, ◌+◌, ◌*◌, ◌≤◌, ◌<◌}
 use mathlib.Core.Path.{◌≡◌, refl, sym, ap, ap₂, subst, ◌∙◌}
 use mathlib.Core.Bool.{Bool, true, false, cond, ◌&&◌, ◌||◌, false≢true}
@@ -22,7 +23,6 @@ use Rattle.account.specs.PartNumbers.{part, in_part, rate_part, parts}
 use Rattle.account.specs.code.Notes.{part_of, one_more, start_noted, unlisted_by, over_limit_by, fault_by, before_at, part_at, fault_at}
 use Rattle.account.specs.Parts.{of_kind, rates_of}
 use Rattle.account.specs.Records.{cut, stretch, records, record_at, record_count, earlier}
-use Rattle.account.specs.declared.answers.Answer.TheVariants.{Accepted}
 use Rattle.account.proofs.Accepted.{accepts, part_few}
 use Rattle.account.proofs.Alone.{records_decide, records_refused}
 use Rattle.account.proofs.Dispatch.{listed_2, listed_5, over_2}
@@ -228,7 +228,7 @@ module _ {file first counts prompts : List ℕ} {held k c : ℕ} {r : Record} (g
 
 -- ---- the end
 pub record Ended (file first counts : List ℕ) : Type 0 where
-  pub accepted : records_checked file ≡ Accepted
+  pub accepted : records_checked file ≡ Ok tt
   pub few : get_or counts rate_part 0 ≤ 7
   pub within : get_or first rate_part 0 + get_or counts rate_part 0 ≤ record_count file
   pub rates : records (stretch file (get_or first rate_part 0) (get_or counts rate_part 0)) ≡ rates_of (records file)
@@ -241,7 +241,7 @@ reading_ends {file} {first} {counts} {prompts} {held} {k} g done a b =
     let i = g.going in
     let ok = going_ends i done a b in
     let s = surveyed i done
-    (record { answer = Accepted; contracts = g.contracts; first = first; counts = counts; converts = any other_row (cut k file) })
+    (record { answer = Ok tt; contracts = g.contracts; first = first; counts = counts; converts = any other_row (cut k file) })
     ok refl refl refl refl refl in
     let n : get_or counts rate_part 0 ≡ count (of_kind 6) (cut k file) = i.notes.counted rate_part (omega arith) in
     let e : k ≡ record_count file = omega (arith, i.inside) in
@@ -256,7 +256,7 @@ reading_ends {file} {first} {counts} {prompts} {held} {k} g done a b =
     }
 
 -- a row of an accepted file is within its ranges
-pub row_at : (file : List ℕ) → records_checked file ≡ Accepted → (k : ℕ) → k < record_count file → kind (record_at file k) ≡ 3 → Row (record_at file k)
+pub row_at : (file : List ℕ) → records_checked file ≡ Ok tt → (k : ℕ) → k < record_count file → kind (record_at file k) ≡ 3 → Row (record_at file k)
 row_at file ok k h e =
     record { is_row = e; within = row_within (record_at file k) e (passed_at file (record_count file) (fine file ok) k h).within }
 

@@ -1,5 +1,6 @@
 -- An accepted file is in order already: writing what was read gives the same bytes.
 -- Assumes nothing.
+use Rattle.std.specs.Prelude.{Ok}
 use Prim.Native.Nat.{ℕ, suc, ◌*◌, ◌≤◌, ◌<◌}
 use mathlib.Core.Path.{◌≡◌, sym, ap, ◌∙◌}
 use mathlib.Core.Bool.{false, ◌&&◌}
@@ -16,7 +17,6 @@ use Rattle.account.specs.Answers.{number_of, record_of}
 use Rattle.account.specs.Check.{records_checked, kind_falls, out_of_order, day_not_above, tier_falls}
 use Rattle.account.specs.Checked.{checked}
 use Rattle.account.specs.Records.{records, record_at, record_count, earlier}
-use Rattle.account.specs.declared.answers.Answer.TheVariants.{Accepted}
 use Rattle.account.proofs.Claimed.{claimed}
 use Rattle.account.proofs.Exactly.{exactly}
 use Rattle.account.proofs.NoonLaws.{accepted_only}
@@ -101,8 +101,8 @@ rises_from [] h = tt
 rises_from (x ∷ []) h = tt
 rises_from (x ∷ y ∷ ys) h = (h 0 (omega arith), rises_from (y ∷ ys) (λ i l. h (suc i) (omega arith)))
 
-module _ (file : List ℕ) (ok : checked file ≡ Accepted) where
-  by_records : records_checked file ≡ Accepted
+module _ (file : List ℕ) (ok : checked file ≡ Ok tt) where
+  by_records : records_checked file ≡ Ok tt
   by_records =
       let clean = ((claimed file).exactly.accepted.forth (record { number = ap number_of ok; place = ap record_of ok })).0 in
       accepted_only (records_checked file) ((exactly file).accepted.back clean).number

@@ -1,6 +1,6 @@
 -- What request 2026-06 asks of the writer, as claims about the definitions.
 -- Assumes nothing.
-use Rattle.std.specs.Prelude.{ℕ, ◌≤◌, ◌<◌, ◌≡◌, true, false, List, map, eqb, ltb, length, get_or}
+use Rattle.std.specs.Prelude.{ℕ, ◌≤◌, ◌<◌, ◌≡◌, true, false, List, map, eqb, ltb, length, get_or, Ok}
 use Rattle.exact.specs.Lists.{one_if, count}
 use Rattle.record.specs.Ranges.{unknown_kind}
 use Rattle.account.specs.Answers.{number_of, record_of}
@@ -9,7 +9,6 @@ use Rattle.account.specs.Checked.{checked}
 use Rattle.exact.specs.Iff.{Iff}
 use Rattle.account.specs.Claims.{First, Clean, FirstRate}
 use Rattle.account.specs.Records.{records, record_at, record_count}
-use Rattle.account.specs.declared.answers.Answer.TheVariants.{Accepted}
 use Rattle.writing.specs.Order.{rank_at, places}
 use Rattle.writing.specs.Written.{written, writing_answer}
 
@@ -29,7 +28,7 @@ pub record Sorts (entries : List ℕ) : Type 0 where
 pub record RoundTrips (entries : List ℕ) : Type 0 where
   pub read_back_lem : records (written entries) ≡ map (record_at entries) (places entries)
   pub size : length (written entries) ≡ length entries
-  pub same_bytes_lem : checked entries ≡ Accepted → written entries ≡ entries
+  pub same_bytes_lem : checked entries ≡ Ok tt → written entries ≡ entries
 
 -- numbers of one byte each
 abbrev pub Bytes : List ℕ → Type 0
@@ -58,8 +57,8 @@ pub record Refuses (entries : List ℕ) (lent : ℕ) : Type 0 where
   pub two : Iff (Answers entries lent 2 0) ((too_long entries ≡ false) × (cut_record entries ≡ true))
   pub others : (n p : ℕ) → 3 ≤ n → n ≤ 9 → Iff (Answers entries lent n p) (FirstEntered entries n p)
   pub rates : (n p : ℕ) → 14 ≤ n → n ≤ 15 → Iff (Answers entries lent n p) (RateEntered entries n p)
-  pub sixteen : Iff (Answers entries lent 16 0) ((checked (written entries) ≡ Accepted) × (lent < length entries))
-  pub accepted : Iff (Answers entries lent 0 0) ((checked (written entries) ≡ Accepted) × (length entries ≤ lent))
+  pub sixteen : Iff (Answers entries lent 16 0) ((checked (written entries) ≡ Ok tt) × (lent < length entries))
+  pub accepted : Iff (Answers entries lent 0 0) ((checked (written entries) ≡ Ok tt) × (length entries ≤ lent))
 
 -- ".. 2 to 4 never occur": 2 for whole entries, 3 for entries of known kinds, 4 for none
 pub record Never (entries : List ℕ) (lent : ℕ) : Type 0 where

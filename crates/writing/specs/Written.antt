@@ -1,12 +1,12 @@
 -- "Write the file too" (request 2026-06): the file of a list of entries, what comes back, and the lent bytes afterwards.
 -- Assumes nothing.
-use Rattle.std.specs.Prelude.{ℕ, ◌*◌, ◌≡◌, Bool, ◌&&◌, cond, List, [], ◌∷◌, ◌++◌, eqb, ltb, length, get_or, drop}
+use Rattle.std.specs.Prelude.{ℕ, ◌*◌, ◌≡◌, Bool, ◌&&◌, cond, List, [], ◌∷◌, ◌++◌, eqb, ltb, length, get_or, drop, Err}
 use Rattle.record.specs.Layout.{Record, record_bytes}
 use Rattle.account.specs.Answers.{number_of, record_of, refusal}
 use Rattle.account.specs.Checked.{checked}
 use Rattle.account.specs.Records.{records, stretch, record_count}
-use Rattle.account.specs.declared.answers.Answer.{Answer}
-use Rattle.account.specs.declared.answers.Answer.TheVariants.{TooFewBytes}
+use Rattle.account.specs.Answers.{Answer}
+use Rattle.account.specs.declared.answers.Refusal.TheVariants.{TooFewBytes}
 use Rattle.writing.specs.Order.{rank, places}
 use Rattle.writing.specs.Sorting.{sorted}
 use Rattle.writing.specs.declared.Written.{Written}
@@ -40,7 +40,7 @@ fine a = eqb (number_of a) 0
 
 -- ".. 16, too few bytes lent, last"
 abbrev pub writing_answer : List ℕ → ℕ → Answer
-writing_answer entries lent = cond (fine (verdict_on entries) && ltb lent (length (written entries))) TooFewBytes (verdict_on entries)
+writing_answer entries lent = cond (fine (verdict_on entries) && ltb lent (length (written entries))) (Err TooFewBytes) (verdict_on entries)
 
 -- how many bytes are written
 abbrev pub bytes_for : Answer → List ℕ → ℕ

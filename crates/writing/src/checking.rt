@@ -16,7 +16,7 @@ ghost use Rattle.writing.specs.Order.{Ordered};
 ghost use Rattle.writing.specs.Written.{written};
 
 use crate::filling::{entry_at, fill};
-use account::answers::{Answer, number_of, refusal};
+use account::answers::{Refusal, number_of, refusal_of};
 use account::check::{note_first, note_one};
 use account::conversions::row_answer;
 use account::fault::fault;
@@ -104,18 +104,18 @@ fn rates_in(entries: &[u8], order: &[u16], k: usize, n: usize) -> Rates
 }
 
 // 14 and 15 of record `k`: only a row gets either.
-fn answer_at(t: Rates, r: &[u8], k: usize) -> Answer
+fn answer_at(t: Rates, r: &[u8], k: usize) -> Result<(), Refusal>
     requires { (kind r.now ≡ 3 → Row r.now) × HoldsRates t }
     ensures { (rates : List Record) → RatesOf rates t → Each RateWithin rates → result ≡ row_answer rates k r.now }
 {
     if kind(r) == 3 {
         return row_answer(t, r, k);
     }
-    Answer::Accepted
+    Ok(())
 }
 
 // 14 and 15, "for rows in file order", of a file whose records are accepted.
-fn conversions_written(entries: &[u8], order: &[u16], t: Rates) -> Answer
+fn conversions_written(entries: &[u8], order: &[u16], t: Rates) -> Result<(), Refusal>
     requires { Ordered entries.now order.now × RatesHeld (written entries.now) t }
     ensures { result ≡ rates_checked (records (written entries.now)) }
 {
@@ -128,11 +128,11 @@ fn conversions_written(entries: &[u8], order: &[u16], t: Rates) -> Answer
         }
         k += 1;
     }
-    Answer::Accepted
+    Ok(())
 }
 
 // The verdict on the written file.
-pub(crate) fn check_written(entries: &[u8], order: &[u16]) -> Answer
+pub(crate) fn check_written(entries: &[u8], order: &[u16]) -> Result<(), Refusal>
     requires { Ordered entries.now order.now × ((too_long entries.now ≡ false) × (cut_record entries.now ≡ false)) }
     ensures { result ≡ checked (written entries.now) }
 {
@@ -148,7 +148,7 @@ pub(crate) fn check_written(entries: &[u8], order: &[u16]) -> Answer
         hold(entries, order, &first, &counts, held, c, &mut prompts);
         let number = fault_by(&counts, &prompts, c, entry_before(entries, order, k), r);
         if number != 0 {
-            return refusal(number, k);
+            return refusal_of(number, k);
         }
         let v = part_of(r);
         note_first(&mut first, &counts, v, k);

@@ -7,7 +7,7 @@ ghost use Rattle.writing.specs.Written.{WrittenBy};
 use crate::filling::fill;
 use crate::order::{MOST_BYTES, order_of};
 use crate::verdict::verdict_on;
-use account::answers::{Answer, number_of};
+use account::answers::{Refusal, number_of};
 use record::bytes::RECORD_BYTES;
 
 mod merging; // merging.rt: a stable sort of places by their keys
@@ -19,11 +19,11 @@ mod verdict; // verdict.rt: what the written file would get
 // What comes back: the answer, and how many bytes were written.
 #[derive(Clone, Copy)]
 pub struct Written {
-    pub answer: Answer,
+    pub answer: Result<(), Refusal>,
     pub bytes: usize,
 }
 
-fn refused(answer: Answer) -> Written
+fn refused(answer: Result<(), Refusal>) -> Written
     ensures { result ≡ record { answer = answer; bytes = 0 } }
 {
     Written { answer, bytes: 0 }
@@ -35,10 +35,10 @@ pub fn write(entries: &[u8], out: &mut [u8]) -> Written
     ensures { WrittenBy entries.now out.old result out.new }
 {
     if MOST_BYTES < entries.len() {
-        return refused(Answer::TooLong);
+        return refused(Err(Refusal::TooLong));
     }
     if entries.len() % RECORD_BYTES != 0 {
-        return refused(Answer::CutRecord);
+        return refused(Err(Refusal::CutRecord));
     }
     let order = order_of(entries);
     let answer = verdict_on(entries, &order);
@@ -46,11 +46,11 @@ pub fn write(entries: &[u8], out: &mut [u8]) -> Written
         return refused(answer);
     }
     if out.len() < entries.len() {
-        return refused(Answer::TooFewBytes);
+        return refused(Err(Refusal::TooFewBytes));
     }
     fill(entries, &order, 0, entries.len() / RECORD_BYTES, out);
     Written {
-        answer: Answer::Accepted,
+        answer: Ok(()),
         bytes: entries.len(),
     }
 }

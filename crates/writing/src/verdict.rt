@@ -7,19 +7,19 @@ ghost use Rattle.writing.specs.Written.{as_entered, verdict_on};
 use crate::checking::check_written;
 use crate::filling::wide;
 use crate::merging::place_at;
-use account::answers::{Answer, number_of, record_of, refusal};
+use account::answers::{Refusal, number_of, record_of, refusal_of};
 
-fn as_entered(order: &[u16], answer: Answer) -> Answer
+fn as_entered(order: &[u16], answer: Result<(), Refusal>) -> Result<(), Refusal>
     ensures { result ≡ as_entered order.now answer }
 {
     let number = number_of(answer);
     if number < 3 {
         return answer;
     }
-    refusal(number, wide(place_at(order, record_of(answer))))
+    refusal_of(number, wide(place_at(order, record_of(answer))))
 }
 
-pub(crate) fn verdict_on(entries: &[u8], order: &[u16]) -> Answer
+pub(crate) fn verdict_on(entries: &[u8], order: &[u16]) -> Result<(), Refusal>
     requires { Ordered entries.now order.now × ((too_long entries.now ≡ false) × (cut_record entries.now ≡ false)) }
     ensures { result ≡ verdict_on entries.now }
 {

@@ -1,12 +1,12 @@
 -- What the check of a pair of files hands out, and the verdict by what it handed out of each.
 -- Assumes nothing.
-use Rattle.std.specs.Prelude.{ℕ, ◌≡◌, true, cond, List, eqb, get_or}
+use Rattle.std.specs.Prelude.{ℕ, ◌≡◌, true, cond, List, eqb, get_or, Ok, Err}
 use Rattle.account.specs.PartNumbers.{part, entry_part, rate_part}
 use Rattle.account.specs.Records.{records}
 use Rattle.account.specs.code.Standing.{JoinedBy, Stands}
 use Rattle.account.specs.code.Surveyed.{Surveyed}
-use Rattle.account.specs.declared.answers.Answer.{Answer}
-use Rattle.account.specs.declared.answers.Answer.TheVariants.{Accepted, NoonSpread}
+use Rattle.account.specs.Answers.{Answer}
+use Rattle.account.specs.declared.answers.Refusal.TheVariants.{NoonSpread}
 use Rattle.account.specs.declared.check.Survey.{Survey}
 use Rattle.account.specs.declared.noon.CheckedPair.{CheckedPair}
 use Rattle.account.specs.declared.noon.Place.{Place}
@@ -17,8 +17,8 @@ use Rattle.account.specs.Noon.{of_joined, of_morning, of_noon, clear, ◌then◌
 abbrev pub noon_spread : Survey → Answer
 noon_spread n =
     cond (eqb (get_or n.counts entry_part 0) 0)
-    (cond (eqb (get_or n.counts rate_part 0) 0) Accepted (NoonSpread (get_or n.first rate_part 0)))
-    (NoonSpread (get_or n.first entry_part 0))
+    (cond (eqb (get_or n.counts rate_part 0) 0) (Ok tt) (Err (NoonSpread (get_or n.first rate_part 0))))
+    (Err (NoonSpread (get_or n.first entry_part 0)))
 
 abbrev pub verdict_by : Survey → Survey → ℕ → Verdict
 verdict_by m n records =

@@ -1,6 +1,6 @@
 -- Where the records of an account stand, in one file or in two, by what the check handed out of them.
 -- Assumes nothing.
-use Rattle.std.specs.Prelude.{ℕ, ◌-◌, ◌*◌, ◌%◌, ◌<◌, ◌≤◌, ◌≡◌, Bool, false, not, ◌&&◌, cond, List, [], ltb, length, get_or, take, drop, replicate}
+use Rattle.std.specs.Prelude.{ℕ, ◌-◌, ◌*◌, ◌%◌, ◌<◌, ◌≤◌, ◌≡◌, Bool, false, not, ◌&&◌, cond, List, [], ltb, length, get_or, take, drop, replicate, Ok}
 use Rattle.exact.specs.Lists.{keep, count, sum}
 use Rattle.record.specs.Layout.{Record, record_bytes, contract, most_contract}
 use Rattle.record.specs.Bytes.{count_from}
@@ -13,7 +13,6 @@ use Rattle.account.specs.code.Notes.{no_contract}
 use Rattle.account.specs.Parts.{of_contract, contracts_of, entries_of, rates_of}
 use Rattle.account.specs.Records.{records, record_count, stretch}
 use Rattle.account.specs.code.Surveyed.{Surveyed}
-use Rattle.account.specs.declared.answers.Answer.TheVariants.{Accepted}
 use Rattle.account.specs.declared.check.Survey.{Survey}
 use Rattle.account.specs.declared.accounts.Checked.{Checked}
 use Rattle.account.specs.declared.accounts.Account.{Account}
@@ -119,4 +118,4 @@ ContractPart morning noon k w bytes =
 pub record CheckedBy (file : List ℕ) (r : Checked) : Type 0 where
   pub answer_is : r.answer ≡ checked file
   pub alone_by : (s : Survey) → Surveyed file s → AloneBy s.first s.counts (record_count file) r.account
-  pub stands : checked file ≡ Accepted → (none : List ℕ) → none ≡ [] → Stands file none r.account
+  pub stands : checked file ≡ Ok tt → (none : List ℕ) → none ≡ [] → Stands file none r.account

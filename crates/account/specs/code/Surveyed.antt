@@ -1,20 +1,20 @@
 -- What the check hands out with its verdict: how many contracts an accepted file lists, of each part where it begins and how many
 -- records it has, and whether any row is in another currency; all 0 and false for a refused file.
 -- Assumes nothing.
-use Rattle.std.specs.Prelude.{ℕ, ◌<◌, ◌≡◌, Bool, false, cond, ◌&&◌, List, eqb, length, get_or, replicate}
+use Rattle.std.specs.Prelude.{ℕ, ◌<◌, ◌≡◌, Bool, false, cond, ◌&&◌, List, eqb, length, get_or, replicate, Ok, Err}
 use Rattle.exact.specs.Lists.{any}
 use Rattle.account.specs.Answers.{number_of}
 use Rattle.account.specs.Check.{records_checked, too_long, cut_record}
 use Rattle.account.specs.Conversions.{other_row}
 use Rattle.account.specs.PartNumbers.{parts, contract_count, part_start, part_count}
 use Rattle.account.specs.Records.{records}
-use Rattle.account.specs.declared.answers.Answer.{Answer}
-use Rattle.account.specs.declared.answers.Answer.TheVariants.{Accepted, TooLong, CutRecord}
+use Rattle.account.specs.Answers.{Answer}
+use Rattle.account.specs.declared.answers.Refusal.TheVariants.{TooLong, CutRecord}
 use Rattle.account.specs.declared.check.Survey.{Survey}
 
 -- what is asked of a file before its records: 1 and 2
 abbrev pub length_checked : List ℕ → Answer
-length_checked file = cond (too_long file) TooLong (cond (cut_record file) CutRecord Accepted)
+length_checked file = cond (too_long file) (Err TooLong) (cond (cut_record file) (Err CutRecord) (Ok tt))
 
 -- whether an accepted file has a row in another currency than the margin's
 abbrev pub converts_in : List ℕ → Bool

@@ -1,7 +1,7 @@
 -- The answers to all questions, told to C, and the lent numbers as they leave them.
 -- Assumes nothing.
 use mathlib.Core.Path.{subst}
-use Rattle.account.specs.declared.answers.Answer.{Answer}
+use Rattle.account.specs.Answers.{Answer}
 use Rattle.felgotany.specs.code.Outcomes.{Tells}
 use Rattle.felgotany.proofs.felgotany_all.Goals as goal
 

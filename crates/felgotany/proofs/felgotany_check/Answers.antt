@@ -1,7 +1,7 @@
 -- The check's answer, told to C.
 -- Assumes nothing.
 use mathlib.Core.Path.{subst}
-use Rattle.account.specs.declared.answers.Answer.{Answer}
+use Rattle.account.specs.Answers.{Answer}
 use Rattle.felgotany.specs.code.Outcomes.{Tells}
 use Rattle.felgotany.proofs.felgotany_check.Goals as goal
 

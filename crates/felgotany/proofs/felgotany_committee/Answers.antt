@@ -1,7 +1,7 @@
 -- The answer of the committee's figures, told to C, and the lent numbers as they are left.
 -- Assumes nothing.
 use mathlib.Core.Path.{subst}
-use Rattle.account.specs.declared.answers.Answer.{Answer}
+use Rattle.account.specs.Answers.{Answer}
 use Rattle.felgotany.specs.code.Outcomes.{Tells}
 use Rattle.felgotany.proofs.felgotany_committee.Goals as goal
 

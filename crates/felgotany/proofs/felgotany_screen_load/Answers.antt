@@ -1,7 +1,7 @@
 -- Whether the named bytes are accepted, told to C.
 -- Assumes nothing.
 use mathlib.Core.Path.{subst}
-use Rattle.account.specs.declared.answers.Answer.{Answer}
+use Rattle.account.specs.Answers.{Answer}
 use Rattle.felgotany.specs.code.Outcomes.{Tells}
 use Rattle.felgotany.proofs.felgotany_screen_load.Goals as goal
 

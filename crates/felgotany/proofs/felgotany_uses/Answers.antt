@@ -1,7 +1,7 @@
 -- The answer to a delta book, told to C, and the lent numbers as the question leaves them.
 -- Assumes nothing.
 use mathlib.Core.Path.{subst}
-use Rattle.account.specs.declared.answers.Answer.{Answer}
+use Rattle.account.specs.Answers.{Answer}
 use Rattle.felgotany.specs.code.Outcomes.{Tells}
 use Rattle.felgotany.proofs.felgotany_uses.Goals as goal
 

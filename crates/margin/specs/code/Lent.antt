@@ -1,14 +1,14 @@
 -- What everything asked at once leaves in lent memory, contract by contract.
 -- Assumes nothing.
-use Rattle.std.specs.Prelude.{ℕ, ◌*◌, ◌≡◌, true, false, cond, List, [], ltb, ℤ, length, get_or}
+use Rattle.std.specs.Prelude.{ℕ, ◌*◌, ◌≡◌, true, false, cond, List, [], ltb, ℤ, length, get_or, Ok, Err}
 use Rattle.std.proofs.lemmas.List.Edits.{sets}
 use Rattle.record.specs.Layout.{Record, contract}
 use Rattle.account.specs.Lawful.{Lawful}
 use Rattle.account.specs.PartNumbers.{entry_part}
 use Rattle.account.specs.Parts.{contracts_of, entries_of}
 use Rattle.account.specs.code.Standing.{PartOf}
-use Rattle.account.specs.declared.answers.Answer.{Answer}
-use Rattle.account.specs.declared.answers.Answer.TheVariants.{Accepted, TooFewNumbers}
+use Rattle.account.specs.Answers.{Answer}
+use Rattle.account.specs.declared.answers.Refusal.TheVariants.{TooFewNumbers}
 use Rattle.margin.specs.declared.everything.Everything.{Everything}
 use Rattle.margin.specs.declared.asking.Question.TheVariants.{Figures, Book, Uses}
 use Rattle.formulas.specs.declared.line.Line.{Line}
@@ -63,7 +63,7 @@ pub record TableLent (account : List Record) (figures books uses figures' books'
 
 -- what is answered where so many numbers are needed and so many lent
 abbrev pub lent_answer : ℕ → ℕ → ℕ → Answer
-lent_answer records needed lent = cond (ltb lent needed) (TooFewNumbers records) Accepted
+lent_answer records needed lent = cond (ltb lent needed) (Err (TooFewNumbers records)) (Ok tt)
 
 -- and everything, where so many are needed for the figures
 pub record LentAnswers (records needed figures books uses : ℕ) (r : Everything) : Type 0 where

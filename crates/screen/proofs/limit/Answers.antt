@@ -1,5 +1,6 @@
 -- A ticket asked about: refused, or its total weighed against the limit.
 -- Assumes nothing.
+use Rattle.std.specs.Prelude.{Ok}
 use mathlib.Core.Path.{◌≡◌, sym, ap₂, ◌∙◌}
 use mathlib.Core.Bool.{false}
 use Prim.Native.Nat.{◌≤◌}
@@ -10,7 +11,6 @@ use lib.Seq.{length-take-le}
 use lib.Signed.{lt_z}
 use Rattle.exact.proofs.Integers.{seen}
 use Rattle.account.specs.Answers.{number_of}
-use Rattle.account.specs.declared.answers.Answer.TheVariants.{Accepted}
 use Rattle.margin.proofs.QuestionLaws.{accepted_only}
 use Rattle.screen.specs.code.Held.{order_in}
 use Rattle.screen.specs.Screen.{held, weighed}
@@ -58,7 +58,7 @@ returns c =
     let o = c.ask_order-asked in
     let z : number_of o.result.answer ≡ 0 = sym c.number_of.ensures
     ∙ omega (arith, c.if-number_of-ne0.false) in
-    let fine : order_in (held a.lent.now a.named) a.ticket.now ≡ Accepted = sym o.ensures.answer_is ∙ accepted_only o.result.answer z in
+    let fine : order_in (held a.lent.now a.named) a.ticket.now ≡ (Ok tt) = sym o.ensures.answer_is ∙ accepted_only o.result.answer z in
     c.weigh.ensures
     ∙ ap₂ weighed (seen nat_abs a.limit c.ranges.limit c.magnitude.ensures) (o.ensures.total_is fine)
     ∙ limit_asked a.lent.now a.named a.ticket.now a.limit (stands (goal.at.returns c).Else-below) (named-lent (goal.at.returns c).Else-lent-named) fine

@@ -1,7 +1,7 @@
 -- What the check of a ticket goes by, so that it does not go through the rows: where the records of the file stand, and how many rows
 -- each contract has with the tickets put in so far.
 -- Assumes nothing.
-use Rattle.std.specs.Prelude.{ℕ, ◌+◌, ◌-◌, ◌≤◌, ◌<◌, ◌≡◌, Bool, List, [], ◌∷◌, leb, length, get_or, set, take}
+use Rattle.std.specs.Prelude.{ℕ, ◌+◌, ◌-◌, ◌≤◌, ◌<◌, ◌≡◌, Bool, List, [], ◌∷◌, leb, length, get_or, set, take, Ok}
 use Rattle.exact.specs.Lists.{count}
 use Rattle.record.specs.Layout.{Record}
 use Rattle.record.specs.Ranges.{unused_byte, field_outside}
@@ -9,17 +9,16 @@ use Rattle.account.specs.Check.{most_contracts, most_records, most_rows, ◌when
 use Rattle.account.specs.Parts.{of_kind, of_contract}
 use Rattle.account.specs.Records.{records}
 use Rattle.account.specs.code.Standing.{CheckedBy}
-use Rattle.account.specs.declared.answers.Answer.TheVariants.{Accepted}
 use Rattle.tickets.specs.declared.counts.Counts.{Counts}
 use Rattle.tickets.specs.Ticket.{with_tickets, ticket_checked}
 
 -- each ticket in turn was accepted
 abbrev pub TakenRows : List ℕ → List Record → Type 0
 TakenRows file tickets =
-    (n : ℕ) → n < length tickets → ticket_checked (with_tickets file (take n tickets)) (get_or tickets n []) ≡ Accepted
+    (n : ℕ) → n < length tickets → ticket_checked (with_tickets file (take n tickets)) (get_or tickets n []) ≡ Ok tt
 
 pub record CountsOf (file : List ℕ) (tickets : List Record) (k : Counts) : Type 0 where
-  pub from_check : CheckedBy file (record { answer = Accepted; account = k.account })
+  pub from_check : CheckedBy file (record { answer = Ok tt; account = k.account })
   pub taken : TakenRows file tickets
   pub many : k.tickets ≡ length tickets
   pub above_is : k.above ≡ count (of_kind 1) (records file) + count (of_kind 2) (records file)

@@ -2,12 +2,12 @@
 -- other rows. .. A kept account comes only from the check of a file or from one of these calls, and that is the one thing they may rest
 -- on".
 -- Assumes nothing.
-use Rattle.std.specs.Prelude.{ℕ, ◌-◌, ◌≡◌, cond, List, [], ◌∷◌, ◌++◌, eqb}
+use Rattle.std.specs.Prelude.{ℕ, ◌-◌, ◌≡◌, cond, List, [], ◌∷◌, ◌++◌, eqb, Ok, Err}
 use Rattle.record.specs.Layout.{Record}
 use Rattle.account.specs.Answers.{number_of}
 use Rattle.account.specs.Records.{records, cut}
-use Rattle.account.specs.declared.answers.Answer.{Answer}
-use Rattle.account.specs.declared.answers.Answer.TheVariants.{Accepted, NoTicketLeft}
+use Rattle.account.specs.Answers.{Answer}
+use Rattle.account.specs.declared.answers.Refusal.TheVariants.{NoTicketLeft}
 use Rattle.margin.specs.code.Positions.{PositionsOf}
 use Rattle.tickets.specs.declared.kept.Keeping.{Keeping}
 use Rattle.tickets.specs.declared.kept.Kept.{Kept}
@@ -28,7 +28,7 @@ pub record Keeps (file : List ℕ) (k : Kept) : Type 0 where
 pub record Takes (file : List ℕ) (k : Kept) (ticket : Record) : Type 0 where
   pub tickets : List Record
   pub kept : KeptBy file tickets k
-  pub taken : (others : List Record) → KeptBy file others k → ticket_checked (with_tickets file others) ticket ≡ Accepted
+  pub taken : (others : List Record) → KeptBy file others k → ticket_checked (with_tickets file others) ticket ≡ Ok tt
 
 -- the latest of them is this one
 pub record Leaves (file : List ℕ) (k : Kept) (ticket : Record) : Type 0 where
@@ -44,7 +44,7 @@ pub record AddedTo (file : List ℕ) (k : Kept) (ticket : Record) (r : Keeping) 
 -- "The latest ticket can be withdrawn, then the one before it; the account is then as it was before that ticket"; 22: "a withdrawal with no
 -- ticket left"
 abbrev pub withdrawal : ℕ → Answer
-withdrawal tickets = cond (eqb tickets 0) NoTicketLeft Accepted
+withdrawal tickets = cond (eqb tickets 0) (Err NoTicketLeft) (Ok tt)
 
 pub record WithdrawnFrom (file tickets : List ℕ) (k : Kept) (r : Keeping) : Type 0 where
   pub told : r.answer ≡ withdrawal k.counts.tickets

@@ -1,6 +1,6 @@
 -- The check of the written file where the entries stand: the prompts that the check of a record looks at are held in memory of their own.
 -- Assumes nothing.
-use Rattle.std.specs.Prelude.{ℕ, ◌+◌, ◌*◌, ◌≤◌, ◌≡◌, Bool, ◌&&◌, ◌||◌, cond, List, ltb, length, get_or, take}
+use Rattle.std.specs.Prelude.{ℕ, ◌+◌, ◌*◌, ◌≤◌, ◌≡◌, Bool, ◌&&◌, ◌||◌, cond, List, ltb, length, get_or, take, Ok}
 use Rattle.record.specs.Layout.{Record, record_bytes, contract}
 use Rattle.account.specs.Check.{records_checked, most_contracts, most_prompts}
 use Rattle.account.specs.PartNumbers.{part, parts}
@@ -8,7 +8,6 @@ use Rattle.account.specs.code.Notes.{part_at, fault_by}
 use Rattle.account.specs.Parts.{of_kind, rates_of}
 use Rattle.account.specs.code.Rates.{RatesOf}
 use Rattle.account.specs.Records.{records, record_count}
-use Rattle.account.specs.declared.answers.Answer.TheVariants.{Accepted}
 use Rattle.account.specs.declared.rates.Rates.{Rates}
 
 -- a row or an interprompt spread of a contract that there may be
@@ -45,5 +44,5 @@ fault_held counts prompts c before r = fault_by counts (records (held_prompts co
 
 -- a file whose records are accepted, and a table of its rates
 pub record RatesHeld (file : List ℕ) (t : Rates) : Type 0 where
-  pub accepted : records_checked file ≡ Accepted
+  pub accepted : records_checked file ≡ Ok tt
   pub rates : RatesOf (rates_of (records file)) t

@@ -29,7 +29,7 @@ pub returns-then-noted-ne0 : goal.returns-then-noted-ne0
 returns-then-noted-ne0 c =
     let whole = c.anew-whole in
     let n = c.note_records-noted in
-    c.refusal.ensures
+    c.refusal_of.ensures
     ∙ refused_there whole.result.now (refusal n.result.number n.result.next) n.ensures.tallied.answer_is
     (λ z. c.if-noted-ne0.true (sym (n.ensures.named c.if-noted-ne0.true) ∙ z))
     ∙ ap checked whole.ensures

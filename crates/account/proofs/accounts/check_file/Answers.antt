@@ -1,11 +1,11 @@
 -- The check's answer, on the records and then on the rates, and the account by what is noted.
 -- Assumes nothing.
+use Rattle.std.specs.Prelude.{Ok}
 use Prim.Native.Nat.{ℕ}
 use mathlib.Core.List.{List}
 use mathlib.Core.Path.{sym, ◌∙◌, subst}
 use Rattle.account.specs.code.Standing.{CheckedBy}
 use Rattle.account.specs.code.Surveyed.{Tallied}
-use Rattle.account.specs.declared.answers.Answer.TheVariants.{Accepted}
 use Rattle.account.proofs.Alone.{checked_refused, tallied_accepted, few_listed, checked_noted}
 use Rattle.account.proofs.accounts.check_file.Goals as goal
 use Rattle.account.proofs.accounts.check_file.Goals.{Else-number_of-ne0}
@@ -17,7 +17,7 @@ module _ (c : Else-number_of-ne0) where
 
   tallied :
       let t = c.note_file-tally in
-      Tallied file Accepted t.result.contracts t.result.converts t.new.first t.new.counts
+      Tallied file (Ok tt) t.result.contracts t.result.converts t.new.first t.new.counts
   tallied = tallied_accepted c.note_file-tally.ensures (sym c.number_of.ensures ∙ c.if-number_of-ne0.false)
 
 pub returns-then-number_of-ne0 : goal.returns-then-number_of-ne0

@@ -1,9 +1,9 @@
 -- The length refuses the file, or the records answer.
 -- Assumes nothing.
+use Rattle.std.specs.Prelude.{Ok}
 use Prim.Native.Nat.{ℕ}
 use mathlib.Core.Path.{◌≡◌, sym, ap, ◌∙◌}
 use Rattle.account.specs.Answers.{number_of, refusal}
-use Rattle.account.specs.declared.answers.Answer.TheVariants.{Accepted}
 use Rattle.account.proofs.AcceptedOnly.{accepted_only}
 use Rattle.account.proofs.Going.{tallied_as}
 use Rattle.account.proofs.Verdict.{length_refused}
@@ -11,7 +11,7 @@ use Rattle.account.proofs.check.note_file.Goals as goal
 use Rattle.account.proofs.check.note_file.Goals.{Else-number_of-ne0}
 
 -- the length is accepted
-whole : (c : Else-number_of-ne0) → c.length_answer-answer.result ≡ Accepted
+whole : (c : Else-number_of-ne0) → c.length_answer-answer.result ≡ Ok tt
 whole c = accepted_only c.length_answer-answer.result (sym c.number_of.ensures ∙ c.if-number_of-ne0.false)
 
 pub returns-then-number_of-ne0 : goal.returns-then-number_of-ne0
@@ -32,4 +32,4 @@ returns-then-noted-eq0 c =
 
 pub returns : goal.returns
 returns c =
-    tallied_as c.refusal.ensures c.note_records-noted.ensures.tallied
+    tallied_as c.refusal_of.ensures c.note_records-noted.ensures.tallied

@@ -1,5 +1,6 @@
 -- The first of the refusals in their order.
 -- Assumes nothing.
+use Rattle.std.specs.Prelude.{Ok, Err}
 use mathlib.Core.Path.{◌≡◌, sym, ap, ◌∙◌}
 use mathlib.Core.Bool.{Bool, cond}
 use native.Mathlib.Omega.{arith}
@@ -8,7 +9,7 @@ use Rattle.account.specs.Check.{most_records}
 use Rattle.account.specs.Answers.{number_of}
 use Rattle.account.specs.Noon.{of_joined, of_morning, of_noon, few_joined}
 use Rattle.account.specs.code.Pair.{noon_spread, verdict_by}
-use Rattle.account.specs.declared.answers.Answer.TheVariants.{Accepted, TooManyJoined}
+use Rattle.account.specs.declared.answers.Refusal.TheVariants.{TooManyJoined}
 use Rattle.account.proofs.NoonLaws.{stops, goes}
 use Rattle.account.proofs.noon.verdict_of.Goals as goal
 use Rattle.account.proofs.noon.verdict_of.Goals.{Else-number_of-ne0, Else-number_of-ne0-2, Else-number_of-ne0-3, Start}
@@ -65,9 +66,9 @@ returns-then-number_of-ne0-3 c =
 pub returns-then-records-gt-MOST_RECORDS : goal.returns-then-records-gt-MOST_RECORDS
 returns-then-records-gt-MOST_RECORDS c =
     let n = (s (goal.at.returns-then-records-gt-MOST_RECORDS c).Else-number_of-ne0-3).args.records in
-    sym (joined (goal.at.returns-then-records-gt-MOST_RECORDS c).Else-number_of-ne0-3 ∙ ap (λ (t : Bool). of_joined (cond t (TooManyJoined n) Accepted)) (lt-ltb most_records n c.if-records-gt-MOST_RECORDS.true))
+    sym (joined (goal.at.returns-then-records-gt-MOST_RECORDS c).Else-number_of-ne0-3 ∙ ap (λ (t : Bool). of_joined (cond t (Err (TooManyJoined n)) (Ok tt))) (lt-ltb most_records n c.if-records-gt-MOST_RECORDS.true))
 
 pub returns : goal.returns
 returns c =
     let n = (s (goal.at.returns c).Else-number_of-ne0-3).args.records in
-    sym (joined (goal.at.returns c).Else-number_of-ne0-3 ∙ ap (λ (t : Bool). of_joined (cond t (TooManyJoined n) Accepted)) (le-ltb most_records n (omega (arith, c.if-records-gt-MOST_RECORDS.false))))
+    sym (joined (goal.at.returns c).Else-number_of-ne0-3 ∙ ap (λ (t : Bool). of_joined (cond t (Err (TooManyJoined n)) (Ok tt))) (le-ltb most_records n (omega (arith, c.if-records-gt-MOST_RECORDS.false))))

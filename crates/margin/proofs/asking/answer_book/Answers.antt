@@ -1,5 +1,6 @@
 -- A question's book: too few numbers lent, or written at the front.
 -- Assumes nothing.
+use Rattle.std.specs.Prelude.{Err}
 use mathlib.Core.Path.{◌≡◌, refl, sym, ap, ◌∙◌}
 use mathlib.Core.List.{List}
 use Prim.Native.Nat.{ℕ, ◌+◌, ◌*◌, ◌≤◌}
@@ -8,7 +9,7 @@ use borrow.Author.Rules.{rules}
 use lib.ListN.{length}
 use lib.Seq.{sets}
 use Rattle.record.specs.Layout.{Record}
-use Rattle.account.specs.declared.answers.Answer.TheVariants.{TooFewNumbers}
+use Rattle.account.specs.declared.answers.Refusal.TheVariants.{TooFewNumbers}
 use Rattle.margin.specs.Books.{book}
 use Rattle.margin.specs.code.Asked.{AskedBy}
 use Rattle.margin.specs.declared.asking.Question.TheVariants.{Book}
@@ -33,10 +34,10 @@ pub returns-then-out-book_count : goal.returns-then-out-book_count
 returns-then-out-book_count c =
     let out = c.args.out.now in
     λ whole question h.
-    refused_with (TooFewNumbers c.args.records) _ (book whole question) out
+    refused_with (Err (TooFewNumbers c.args.records)) _ (book whole question) out
     (asked_few whole (Book question) (length out) h.asked_is
     (omega (arith, many (goal.at.returns-then-out-book_count c).Start whole question h, c.book_count.ensures, c.if-out-book_count.true))
-    ∙ ap TooFewNumbers (sym h.records_are)) (λ e. omega arith)
+    ∙ ap (λ (n : ℕ). Err (TooFewNumbers n)) (sym h.records_are)) (λ e. omega arith)
 
 pub returns : goal.returns
 returns c =

@@ -1,5 +1,6 @@
 -- A contract's book by its records in the files: too few numbers lent, or written at the front.
 -- Assumes nothing.
+use Rattle.std.specs.Prelude.{Err}
 use mathlib.Core.List.{[], map}
 use mathlib.Core.Path.{◌≡◌, refl, sym, ap, ◌∙◌}
 use Prim.Native.Nat.{◌+◌, ◌*◌}
@@ -8,7 +9,7 @@ use lib.ListN.{length}
 use Rattle.account.specs.code.Lent.{account_in}
 use Rattle.account.specs.Joined.{account_of}
 use Rattle.account.specs.Records.{records, record_count}
-use Rattle.account.specs.declared.answers.Answer.TheVariants.{TooFewNumbers}
+use Rattle.account.specs.declared.answers.Refusal.TheVariants.{TooFewNumbers}
 use Rattle.spread.specs.Accepted.{prompt_places}
 use Rattle.spread.specs.Steps.{steps}
 use Rattle.spread.proofs.Lent.{deltas_again}
@@ -93,10 +94,10 @@ returns-then-out-contract_count c =
     let a = account_of c.args.morning.now c.args.noon.now in
     let n = c.args.c in
     let out = c.args.out.now in
-    refused_with (TooFewNumbers c.record_total.result) _ (book a n) out
+    refused_with (Err (TooFewNumbers c.record_total.result)) _ (book a n) out
     (asked_few a (Book n) (length out) c.requires.1.1
     (omega (arith, many (goal.at.returns-then-out-contract_count c).After-spreads_part-spreads, c.contract_count.ensures, c.if-out-contract_count.true))
-    ∙ ap TooFewNumbers (sym (c.record_total.ensures ∙ c.requires.0.places.all))) (λ e. omega arith)
+    ∙ ap (λ (n : ℕ). Err (TooFewNumbers n)) (sym (c.record_total.ensures ∙ c.requires.0.places.all))) (λ e. omega arith)
 
 pub put_net_deltas-requires : goal.put_net_deltas-requires
 put_net_deltas-requires c =

@@ -5,7 +5,7 @@ use mathlib.Core.List.{List}
 use lib.IntN.{ℤ}
 use lib.ListN.{length}
 use Rattle.record.specs.Layout.{Record}
-use Rattle.account.specs.declared.answers.Answer.{Answer}
+use Rattle.account.specs.Answers.{Answer}
 use Rattle.margin.specs.Questions.{answer_over, after_over}
 use Rattle.margin.specs.declared.asking.Question.{Question}
 use Rattle.margin.proofs.asking.answer_lent_from.Goals as goal

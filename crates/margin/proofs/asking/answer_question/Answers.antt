@@ -1,5 +1,6 @@
 -- A question of an account: not to be asked, a contract's book, or answered by what it asks about.
 -- Assumes nothing.
+use Rattle.std.specs.Prelude.{Err}
 use mathlib.Core.Path.{◌≡◌, sym, ap, ◌∙◌, subst⁻¹}
 use mathlib.Core.Bool.{Bool, false, not}
 use native.Mathlib.Omega.{arith}
@@ -8,7 +9,7 @@ use lib.Dec.{eqb}
 use lib.ListN.{length}
 use Rattle.account.specs.code.Lent.{account_in}
 use Rattle.account.specs.Joined.{account_of}
-use Rattle.account.specs.declared.answers.Answer.TheVariants.{NoSuchQuestion}
+use Rattle.account.specs.declared.answers.Refusal.TheVariants.{NoSuchQuestion}
 use Rattle.spread.proofs.Both.{and_left, and_right}
 use Rattle.margin.specs.Books.{answered, table_question}
 use Rattle.margin.specs.Places.{question_of}
@@ -35,10 +36,10 @@ pub returns-then-not-is_asked : goal.returns-then-not-is_asked
 returns-then-not-is_asked c =
     let a = account_of c.args.morning.now c.args.noon.now in
     let q = question_of c.args.paid c.args.question in
-    refused_with (NoSuchQuestion c.record_total.result) _ (numbers_for a q) c.args.out.now
+    refused_with (Err (NoSuchQuestion c.record_total.result)) _ (numbers_for a q) c.args.out.now
     (not-asked a q (length c.args.out.now)
     (answers_of a c.args.paid c.args.question ∙ asked (goal.at.returns-then-not-is_asked c).After-is_asked ∙ c.if-not-is_asked.true)
-    ∙ ap NoSuchQuestion (sym (c.record_total.ensures ∙ c.requires.places.all))) (λ e. omega arith)
+    ∙ ap (λ (n : ℕ). Err (NoSuchQuestion n)) (sym (c.record_total.ensures ∙ c.requires.places.all))) (λ e. omega arith)
 
 pub answer_contract_book-requires : goal.answer_contract_book-requires
 answer_contract_book-requires c =

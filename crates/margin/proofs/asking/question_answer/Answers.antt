@@ -1,11 +1,12 @@
 -- A question of an account: not to be asked, or answered by what it asks about.
 -- Assumes nothing.
+use Rattle.std.specs.Prelude.{Err}
 use mathlib.Core.Path.{◌≡◌, sym, ap, ◌∙◌}
 use native.Mathlib.Omega.{arith}
 use lib.ListN.{length}
 use Rattle.account.specs.code.Lent.{account_in}
 use Rattle.account.specs.Joined.{account_of}
-use Rattle.account.specs.declared.answers.Answer.TheVariants.{NoSuchQuestion}
+use Rattle.account.specs.declared.answers.Refusal.TheVariants.{NoSuchQuestion}
 use Rattle.margin.specs.Books.{answered}
 use Rattle.margin.specs.Places.{question_of}
 use Rattle.margin.specs.Questions.{numbers_for}
@@ -29,10 +30,10 @@ returns-then-not-is_asked c =
     let k = c.args.question in
     let q = question_of c.args.paid k in
     λ whole t.
-    refused_with (NoSuchQuestion c.args.positions.records) _ (numbers_for whole q) c.args.out.now
+    refused_with (Err (NoSuchQuestion c.args.positions.records)) _ (numbers_for whole q) c.args.out.now
     (not-asked whole q (length c.args.out.now) (answers_of whole c.args.paid k ∙ answered_beside a whole t.beside k ∙ asked (goal.at.returns-then-not-is_asked c).After-is_asked
     ∙ c.if-not-is_asked.true)
-    ∙ ap NoSuchQuestion (sym t.positions.records_are)) (λ e. omega arith)
+    ∙ ap (λ (n : ℕ). Err (NoSuchQuestion n)) (sym t.positions.records_are)) (λ e. omega arith)
 
 pub asking_from-asking-requires : goal.asking_from-asking-requires
 asking_from-asking-requires c =

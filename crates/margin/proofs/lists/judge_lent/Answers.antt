@@ -1,10 +1,11 @@
 -- A list for a question: not to be asked, or judged by the question's own steps.
 -- Assumes nothing.
+use Rattle.std.specs.Prelude.{Err}
 use mathlib.Core.Path.{◌≡◌, sym, ap, ◌∙◌}
 use Prim.Native.Nat.{ℕ}
 use Rattle.account.specs.code.Lent.{account_in}
 use Rattle.account.specs.Joined.{account_of}
-use Rattle.account.specs.declared.answers.Answer.TheVariants.{NoSuchQuestion}
+use Rattle.account.specs.declared.answers.Refusal.TheVariants.{NoSuchQuestion}
 use Rattle.margin.specs.Books.{answered}
 use Rattle.margin.specs.Lists.{said_of}
 use Rattle.margin.specs.declared.lists.Judged.TheVariants.{Refused}
@@ -25,7 +26,7 @@ asked c =
 pub returns-then-not-is_asked : goal.returns-then-not-is_asked
 returns-then-not-is_asked c =
     let a = c.args in
-    ap (λ (n : ℕ). Refused (NoSuchQuestion n)) (c.record_total.ensures ∙ c.requires.places.all)
+    ap (λ (n : ℕ). Refused (Err (NoSuchQuestion n))) (c.record_total.ensures ∙ c.requires.places.all)
     ∙ list_not-asked (account_of a.morning.now a.noon.now) a.question a.sent a.numbers.now a.uses.now
     (asked (goal.at.returns-then-not-is_asked c).After-is_asked ∙ c.if-not-is_asked.true)
 

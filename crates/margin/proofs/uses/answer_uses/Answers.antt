@@ -1,11 +1,12 @@
 -- What each step takes of each prompt: too few numbers lent, or written at the front.
 -- Assumes nothing.
+use Rattle.std.specs.Prelude.{Err}
 use mathlib.Core.Path.{refl, sym, ap, ◌∙◌}
 use Prim.Native.Nat.{◌≤◌}
 use native.Mathlib.Omega.{arith}
 use lib.ListN.{length}
 use lib.Seq.{sets}
-use Rattle.account.specs.declared.answers.Answer.TheVariants.{TooFewNumbers}
+use Rattle.account.specs.declared.answers.Refusal.TheVariants.{TooFewNumbers}
 use Rattle.margin.specs.Uses.{uses}
 use Rattle.margin.specs.declared.asking.Question.TheVariants.{Uses}
 use Rattle.margin.proofs.AnswerLaws.{uses_same, uses_many}
@@ -17,10 +18,10 @@ pub returns-then-out-uses_count : goal.returns-then-out-uses_count
 returns-then-out-uses_count c =
     let out = c.args.out.now in
     λ whole question h.
-    refused_with (TooFewNumbers c.args.records) _ (uses whole question) out
+    refused_with (Err (TooFewNumbers c.args.records)) _ (uses whole question) out
     (asked_few whole (Uses question) (length out) h.asked_is
     (omega (arith, uses_many whole question c.args.records c.args.asking h, c.uses_count.ensures, c.if-out-uses_count.true))
-    ∙ ap TooFewNumbers (sym h.records_are)) (λ e. omega arith)
+    ∙ ap (λ (n : ℕ). Err (TooFewNumbers n)) (sym h.records_are)) (λ e. omega arith)
 
 pub put_uses-requires : goal.put_uses-requires
 put_uses-requires c =

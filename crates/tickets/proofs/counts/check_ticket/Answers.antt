@@ -51,7 +51,7 @@ returns-then-number-ne0 c =
     let a = c.args in
     let t = a.ticket.now in
     λ ts co.
-    c.refusal.ensures
+    c.refusal_of.ensures
     ∙ tell_row a.file.now ts a.counts co t a.none.now c.requires.0
     c.if-ticket-ne-RECORD_BYTES.false
     (sym c.kind.ensures.0 ∙ c.if-kind-ne3.false)

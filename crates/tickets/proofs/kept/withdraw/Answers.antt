@@ -1,5 +1,6 @@
 -- Without a ticket nothing changes; else counts and positions are without the latest row.
 -- Assumes nothing.
+use Rattle.std.specs.Prelude.{Ok, Err}
 use mathlib.Core.Path.{◌≡◌, refl, sym, ap, ◌∙◌, subst, subst⁻¹}
 use mathlib.Core.List.{List, [], ◌∷◌, ◌++◌}
 use Prim.Native.Nat.{ℕ, ◌-◌, ◌≤◌}
@@ -14,7 +15,7 @@ use Rattle.tickets.proofs.CountLaws.{small, known_low, some_rows, some_tickets, 
 use Rattle.tickets.proofs.KeptLaws.{cut_last}
 use borrow.Author.Tests.{ne_eqb}
 use mathlib.Core.Bool.{Bool, cond}
-use Rattle.account.specs.declared.answers.Answer.TheVariants.{Accepted, NoTicketLeft}
+use Rattle.account.specs.declared.answers.Refusal.TheVariants.{NoTicketLeft}
 use Rattle.tickets.proofs.kept.withdraw.Goals as goal
 
 -- the tickets, and the latest of them
@@ -70,7 +71,7 @@ returns c =
     let nz : c.args.kept.counts.tickets ≡ 0 → ⊥ = λ z. c.if-count-eq0.false
     (c.tickets_of-count.ensures ∙ z) in
     record {
-      told = sym (ap (λ (b : Bool). cond b NoTicketLeft Accepted) (ne_eqb c.args.kept.counts.tickets 0 nz));
+      told = sym (ap (λ (b : Bool). cond b (Err NoTicketLeft) (Ok tt)) (ne_eqb c.args.kept.counts.tickets 0 nz));
       refused = λ m. absurd (m refl);
       accepted = λ z.
           subst (λ (i : ℕ). KeptBy file (cut (i - 1) c.args.tickets.now)

@@ -73,7 +73,7 @@ fault_by-number-requires c =
 pub returns-then-number-ne0 : goal.returns-then-number-ne0
 returns-then-number-ne0 c =
     let e = c.args.entries.now in
-    c.refusal.ensures
+    c.refusal_of.ensures
     ∙ turn_stops c.loop-k.invariant (inside e _ _ c.loop-k-test.true c.record_count-count.ensures) c.entry_at-r.ensures c.asked_of-c.ensures c.hold.ensures
     c.entry_before.ensures
     c.fault_by-number.ensures c.if-number-ne0.true (long_same e ∙ c.requires.1.0) (cut_same e ∙ c.requires.1.1)

@@ -1,7 +1,7 @@
 -- What the check says, at the entry's place.
 -- Assumes nothing.
 use mathlib.Core.Path.{ap, ◌∙◌}
-use Rattle.account.specs.declared.answers.Answer.{Answer}
+use Rattle.account.specs.Answers.{Answer}
 use Rattle.writing.specs.Written.{as_entered}
 use Rattle.writing.proofs.Placed.{same_places}
 use Rattle.writing.proofs.verdict.verdict_on.Goals as goal

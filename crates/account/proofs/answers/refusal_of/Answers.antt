@@ -1,6 +1,6 @@
 -- `account::answers::refusal` meets its contract. Assumes nothing.
 use borrow.Author.Tests.{ne_eqb}
-use Rattle.account.proofs.answers.refusal.Goals as goal
+use Rattle.account.proofs.answers.refusal_of.Goals as goal
 
 pub returns-then-number-eq3 : goal.returns-then-number-eq3
 returns-then-number-eq3 c = rw c.if-number-eq3.true

@@ -3,7 +3,7 @@
 use Rattle.std.specs.Prelude.{ℕ, cond, List, ℤ, length, Err}
 use Rattle.record.specs.Layout.{Record}
 use Rattle.account.specs.declared.answers.Refusal.TheVariants.{NoSuchQuestion}
-use Rattle.account.specs.declared.answers.Answer.TheVariants as answer
+use Rattle.account.specs.declared.answers.Refusal.TheVariants as refusal
 use Rattle.judging.specs.Judged.{judged_list}
 use Rattle.judging.specs.declared.Verdict.{Verdict}
 use Rattle.judging.specs.declared.Verdict.TheVariants as verdict
@@ -18,7 +18,7 @@ said_of verdict.Right = Right
 said_of (verdict.MoreThanFormed step) = MoreThanFormed step
 said_of (verdict.LessThanFormed step) = LessThanFormed step
 said_of (verdict.WrongUse step) = WrongUse step
-said_of verdict.OtherCounts = Refused answer.OtherCounts
+said_of verdict.OtherCounts = Refused (Err refusal.OtherCounts)
 
 -- "it comes after the account's own faults and 11"
 abbrev pub judged_over : List Record → ℕ → ℕ → List ℤ → List ℤ → Judged

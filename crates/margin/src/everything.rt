@@ -134,7 +134,7 @@ fn lend_uses(
     let asking = contract_asking(prompts, spreads, deltas_from(*nets));
     let start = LONGEST_USES * c;
     let end = start + LONGEST_USES;
-    answer_uses(count, asking, &mut out[start..end]);
+    let _ = answer_uses(count, asking, &mut out[start..end]);
 }
 
 // The line of a contract, and its book and its uses in their places: its steps are run once for its line and its book, and what they touch is
@@ -366,7 +366,7 @@ fn lend_table_uses(
     let asking = table_asking(entries, prompts);
     let start = LONGEST_USES * TABLE;
     let end = start + LONGEST_USES;
-    answer_uses(records, asking, &mut out[start..end]);
+    let _ = answer_uses(records, asking, &mut out[start..end]);
 }
 
 // The book of the table that was run, likewise.

@@ -3,9 +3,10 @@
 use Rattle.std.specs.Prelude.{Ok, Err}
 use Prim.Native.Nat.{ℕ, suc}
 use native.Mathlib.Omega.{arith}
-use mathlib.Core.Path.{◌≡◌, refl}
+use mathlib.Core.Path.{◌≡◌, refl, ◌∙◌}
 use Rattle.account.specs.Answers.{number_of}
 use Rattle.account.specs.Answers.{Answer}
+use Rattle.account.specs.declared.answers.Refusal.{Refusal}
 use Rattle.account.specs.declared.answers.Refusal.TheVariants.{TooLong, CutRecord, UnknownKind, KindFalls, UnusedByte, FieldOutside, Unlisted}
 use Rattle.account.specs.declared.answers.Refusal.TheVariants.{OutOfOrder, OverLimit, TooFewNumbers, NoSuchQuestion, NoonSpread, TooManyJoined, NoRate}
 use Rattle.account.specs.declared.answers.Refusal.TheVariants.{ConversionBeyond, TooFewBytes, LengthsDiffer, OtherCounts, TooManyAccounts, LimitBelowZero}
@@ -39,3 +40,7 @@ accepted_only (Err TooManyAccounts) e = absurd (some e)
 accepted_only (Err LimitBelowZero) e = absurd (some e)
 accepted_only (Err (AmountOutside k)) e = absurd (some e)
 accepted_only (Err NoTicketLeft) e = absurd (some e)
+
+-- and to no refusal
+pub refused_some : {a : Answer} {r : Refusal} → Err r ≡ a → number_of a ≡ 0 → ⊥
+refused_some {a} e z = let f = e ∙ accepted_only a z in cc

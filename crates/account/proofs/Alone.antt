@@ -149,29 +149,18 @@ module _ (file : List ℕ) (s : Survey) (j : Account) (sv : Surveyed file s) (by
         places = alone_places file s (record_count file) j sv by p.recorded refl none z;
       }
 
-  checked_alone : (a : Answer) → a ≡ checked file → CheckedBy file (record { answer = a; account = j })
-  checked_alone a e =
+  checked_alone : checked file ≡ Ok tt → CheckedBy file (Ok j)
+  checked_alone ok =
       record {
-        answer_is = e;
-        alone_by = λ s' sv'. subst (λ (x : Survey). AloneBy x.first x.counts (record_count file) j) (same_survey file s s' sv sv') by;
-        stands = alone_stands;
+        answer_is = sym ok;
+        accepted =
+            record {
+              alone_by = λ s' sv'. subst (λ (x : Survey). AloneBy x.first x.counts (record_count file) j) (same_survey file s s' sv sv') by;
+              stands = alone_stands ok;
+            };
       }
 
--- a refused file: nothing is noted
-pub checked_refused :
-    (file : List ℕ) (a : Answer) (n : ℕ) (j : Account) → a ≡ records_checked file → (number_of a ≡ 0 → ⊥) → n ≡ record_count file
-    → AloneBy zeros zeros n j → CheckedBy file (record { answer = a; account = j })
-checked_refused file a n j e d m by =
-    let s : Survey = record { answer = a; contracts = 0; first = zeros; counts = zeros; converts = false } in
-    let none : Empty a s = record { answer = refl; contracts = refl; first = refl; counts = refl; converts = refl } in
-    checked_alone file s j (Going.nothing file a s (sym e) d none) (subst (λ (k : ℕ). AloneBy zeros zeros k j) m by) a (refused_there file a e d)
-
 -- the records are accepted: the rates are looked at, by what is noted
-pub tallied_accepted :
-    {file first counts : List ℕ} {a : Answer} {contracts : ℕ} {converts : Bool} → Tallied file a contracts converts first counts
-    → number_of a ≡ 0 → Tallied file (Ok tt) contracts converts first counts
-tallied_accepted {file} {first} {counts} {a} t z = tallied_as (sym (accepted_only a z)) t
-
 module _ (file : List ℕ) (contracts : ℕ) {converts : Bool} (first counts : List ℕ) (t : Tallied file (Ok tt) contracts converts first counts) where
   abbrev its : Survey
   its = record { answer = Ok tt; contracts = contracts; first = first; counts = counts; converts = converts }
@@ -195,5 +184,5 @@ module _ (file : List ℕ) (contracts : ℕ) {converts : Bool} (first counts : L
     pub rates_alone : (none : List ℕ) → none ≡ [] → rates_checked (account_of file none) ≡ checked file
     rates_alone none z = ap rates_checked (alone file none z ok) ∙ sym (records_decide file ok)
 
-    pub checked_noted : (a : Answer) → a ≡ checked file → CheckedBy file (record { answer = a; account = j })
+    pub checked_noted : checked file ≡ Ok tt → CheckedBy file (Ok j)
     checked_noted = checked_alone file its j sv (subst (λ (k : ℕ). AloneBy first counts k j) e by)

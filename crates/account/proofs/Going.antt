@@ -1,6 +1,6 @@
 -- The check on its way: no fault before record k, and the notes are those of the records before it.
 -- Assumes nothing.
-use Rattle.std.specs.Prelude.{Ok}
+use Rattle.std.specs.Prelude.{Ok, Err}
 use Prim.Native.Nat.{ℕ, zero, suc, ◌+◌, ◌-◌, ◌≤◌, ◌<◌}
 use mathlib.Core.Path.{◌≡◌, refl, sym, ap, subst, subst⁻¹, ◌∙◌}
 use mathlib.Core.Bool.{Bool, true, false, cond, ◌&&◌, ◌||◌}
@@ -24,9 +24,11 @@ use Rattle.account.specs.PartNumbers.{in_part, of_accepted, parts}
 use Rattle.account.specs.Parts.{of_kind, start_of}
 use Rattle.account.specs.code.Passing.{part_at_record, counted_to, Passes, Notable, Advances}
 use Rattle.account.specs.Records.{cut, record_at, records, record_count, earlier}
+use Rattle.account.specs.declared.answers.Refusal.{Refusal}
 use Rattle.account.specs.code.Surveyed.{converts_in, Surveyed, Empty, Tallied}
 use Rattle.account.specs.Answers.{Answer}
 use Rattle.account.specs.declared.check.Survey.{Survey}
+use Rattle.account.proofs.AcceptedOnly.{refused_some}
 use Rattle.account.proofs.Earlier.{cut_more}
 use Rattle.account.proofs.Every.{none_passes}
 use Rattle.account.proofs.Faults.{same_fault}
@@ -106,13 +108,11 @@ module _ {file first counts : List ℕ} {contracts k : ℕ} (g : Going file firs
 
   -- a fault: the verdict
   pub going_stops :
-      {first' counts' : List ℕ} (n : ℕ) → n ≡ fault_at file first counts k → (n ≡ 0 → ⊥) → too_long file ≡ false → cut_record file ≡ false
-      → {converts : Bool} → Tallied file (refusal n k) contracts converts first' counts'
-  going_stops n e nz a b =
-      let f = sym (e ∙ fault_is) in
-      let i = fault_number (earlier file k) (record_at file k) n f nz in
-      let m = number_refusal n k i.0 i.1 in
-      record { answer_is = sym (by_records file a b ∙ stops file k n more g.fine f nz); accepted = λ z. absurd (nz (sym m ∙ z)) }
+      {r : Refusal} → Err r ≡ refusal (fault_at file first counts k) k → too_long file ≡ false → cut_record file ≡ false → Err r ≡ records_checked file
+  going_stops e a b =
+      let n = fault_at file first counts k in
+      let nz : n ≡ 0 → ⊥ = λ z. refused_some e (ap (λ (m : ℕ). number_of (refusal m k)) z) in
+      e ∙ sym (by_records file a b ∙ stops file k n more g.fine (sym fault_is) nz)
 
   -- no fault: what the next turn begins with
   module _ (none : fault_at file first counts k ≡ 0) where

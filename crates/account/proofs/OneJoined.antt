@@ -1,5 +1,6 @@
 -- The promises about a joined account leave one outcome.
 -- Assumes nothing.
+use Rattle.std.specs.Prelude.{Result, Ok, Err}
 use Prim.Native.Nat.{ℕ, zero, suc, ◌+◌, ◌-◌, ◌<◌}
 use mathlib.Core.Path.{◌≡◌, refl, sym, ap, ap₂, subst⁻¹, ◌∙◌}
 use mathlib.Core.Bool.{Bool, false}
@@ -19,7 +20,7 @@ use Rattle.account.specs.code.Standing.{listed_in, Filled, Flagged, Numbered, Jo
 use Rattle.account.specs.code.Surveyed.{converts_in, Surveyed}
 use Rattle.account.specs.declared.check.Survey.{Survey}
 use Rattle.account.specs.declared.accounts.Account.{Account}
-use Rattle.account.specs.declared.accounts.Checked.{Checked}
+use Rattle.account.specs.declared.answers.Refusal.{Refusal}
 use Rattle.account.specs.declared.noon.CheckedPair.{CheckedPair}
 use Rattle.account.proofs.Going.{same_survey}
 
@@ -135,13 +136,13 @@ surveyed file =
       converts = refl;
     }
 
-pub one_file_lem : (file : List ℕ) (r s : Checked) → CheckedBy file r → CheckedBy file s → r ≡ s
-one_file_lem file r s a b =
+pub one_file_lem : (file : List ℕ) (r s : Result Account Refusal) → CheckedBy file r → CheckedBy file s → r ≡ s
+one_file_lem file (Ok r) (Ok s) a b =
     let m = taken file in
-    let account =
-    one_alone m.first m.counts (record_count file) r.account s.account (a.alone_by m (surveyed file)) (b.alone_by m (surveyed file))
-    in
-    λ i. record { answer = (a.answer_is ∙ sym b.answer_is) i; account = account i }
+    ap Ok (one_alone m.first m.counts (record_count file) r s (a.accepted.alone_by m (surveyed file)) (b.accepted.alone_by m (surveyed file)))
+one_file_lem file (Ok r) (Err d) a b = let e = a.answer_is ∙ sym b.answer_is in cc
+one_file_lem file (Err c) (Ok s) a b = let e = a.answer_is ∙ sym b.answer_is in cc
+one_file_lem file (Err c) (Err d) a b = let e = a.answer_is ∙ sym b.answer_is in cc
 
 pub one_checked : (morning noon : List ℕ) (r s : CheckedPair) → PairBy morning noon r → PairBy morning noon s → r ≡ s
 one_checked morning noon r s a b =

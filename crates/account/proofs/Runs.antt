@@ -28,7 +28,7 @@ use Rattle.account.specs.code.Notes.{part_of, one_more, start_noted, no_contract
 use Rattle.account.specs.code.Notes.{fault_at}
 use Rattle.account.specs.Parts.{of_kind, on_day, on_tier}
 use Rattle.account.specs.code.Passing.{DaysListed, has_day, TiersListed, leg_unlisted_in, legs_meet, prompt_passes, row_passes, spread_passes, entry_passes}
-use Rattle.account.specs.code.Passing.{contract_passes, RunTo, part_at_record, counted_to, PassesAt, Passes, After, Begins, Runs, NotedTo, StepBy}
+use Rattle.account.specs.code.Passing.{contract_passes, RunTo, part_at_record, counted_to, PassesAt, Passes, After, Begins, Runs, NotedTo, Advances}
 use Rattle.account.specs.Records.{cut, record_at, record_count, records, stretch}
 use Rattle.account.proofs.Dispatch.{order_1, order_2, order_3, order_4, order_5, listed_2, listed_3, listed_4, listed_5, listed-none}
 use Rattle.account.proofs.Dispatch.{limit_2, limit_3, limit_4, limit_5, limit_none}
@@ -882,35 +882,23 @@ noted_to {file} {first} {counts} {first'} {counts₁} {counts'} {k} {next} {v} h
 module _ {file first counts first' counts' : List ℕ} {k : ℕ} where
   pub step_runs :
       {next contracts : ℕ} {own : Record} → Runs file first counts k next → k < next → NotedTo file first counts k next first' counts'
-      → contracts ≡ one_if (of_kind 1 own) → own ≡ record_at file k → StepBy file first counts k 0 next contracts first' counts'
+      → contracts ≡ one_if (of_kind 1 own) → own ≡ record_at file k → Advances file first counts k next contracts first' counts'
   step_runs {next} r h n o eo =
       record {
-        stops = λ nz. absurd (nz refl);
-        goes = λ z.
-            record {
-              fine = r.fine h;
-              noted = n;
-              later = subst (λ (l : List ℕ). Passes file l (one_more counts (part_at_record file k)) k next) (sym n.started) (r.later h);
-              own = o ∙ ap (λ (x : Record). one_if (of_kind 1 x)) eo;
-            };
+        fine = r.fine h;
+        noted = n;
+        later = subst (λ (l : List ℕ). Passes file l (one_more counts (part_at_record file k)) k next) (sym n.started) (r.later h);
+        own = o ∙ ap (λ (x : Record). one_if (of_kind 1 x)) eo;
       }
 
-  pub step_stops : {number next contracts : ℕ} → number ≡ fault_at file first counts k → (number ≡ 0 → ⊥)
-      → StepBy file first counts k number next contracts first' counts'
-  step_stops e nz = record { stops = λ z. e; goes = λ z. absurd (nz z) }
-
   pub step_alone :
-      {number contracts : ℕ} {r : Record} → number ≡ fault_at file first counts k → number ≡ 0 → k < record_count file
+      {contracts : ℕ} {r : Record} → fault_at file first counts k ≡ 0 → k < record_count file
       → NotedTo file first counts k (k + 1) first' counts' → contracts ≡ one_if (of_kind 1 r) → r ≡ record_at file k
-      → StepBy file first counts k number (k + 1) contracts first' counts'
-  step_alone e z h n o er =
+      → Advances file first counts k (k + 1) contracts first' counts'
+  step_alone z h n o er =
       record {
-        stops = λ nz. absurd (nz z);
-        goes = λ y.
-            record {
-              fine = sym e ∙ z;
-              noted = n;
-              later = record { low = omega arith; high = omega arith; each = λ j l m. absurd (omega arith) };
-              own = o ∙ ap (λ (x : Record). one_if (of_kind 1 x)) er;
-            };
+        fine = z;
+        noted = n;
+        later = record { low = omega arith; high = omega arith; each = λ j l m. absurd (omega arith) };
+        own = o ∙ ap (λ (x : Record). one_if (of_kind 1 x)) er;
       }

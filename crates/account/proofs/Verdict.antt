@@ -1,6 +1,6 @@
 -- The verdict, from the faults of the records: the first fault answers, and without one the file is accepted.
 -- Assumes nothing.
-use Rattle.std.specs.Prelude.{Ok, Err}
+use Rattle.std.specs.Prelude.{Ok, Err, eqb}
 use Prim.Native.Nat.{ℕ, zero, suc, ◌+◌, ◌-◌, ◌*◌, ◌≤◌, ◌<◌}
 use mathlib.Core.Path.{◌≡◌, refl, sym, ap, ◌∙◌}
 use mathlib.Core.Bool.{Bool, true, false, cond}
@@ -8,7 +8,7 @@ use mathlib.Core.List.{List, [], ◌∷◌}
 use lib.ListN.{drop}
 use native.Mathlib.Omega.{arith}
 use native.Mathlib.Numerals.{add-one}
-use borrow.Author.Tests.{ne_eqb}
+use borrow.Author.Tests.{ne_eqb, eqb-true, eqb-false}
 use Rattle.record.specs.Bytes.{record_bytes}
 use Rattle.record.specs.Layout.{Record, contract}
 use Rattle.record.specs.Ranges.{unknown_kind, unused_byte, field_outside}
@@ -120,3 +120,12 @@ fault_named file first counts k n j e nz =
     let range = fault_range (unknown_kind r) (kind_falls before r) (unused_byte r) (field_outside r)
     (unlisted_by counts (prompts_noted file first counts (contract r)) r) (out_of_order before r) (over_limit_by counts r) n (sym e) nz in
     number_refusal n j range.0 range.1
+
+-- a record that is not refused has no fault
+pub fault_clear : (file first counts : List ℕ) (k : ℕ) → refusal (fault_at file first counts k) k ≡ Ok tt → fault_at file first counts k ≡ 0
+fault_clear file first counts k e = go (eqb (fault_at file first counts k) 0) refl
+  where
+    go : (t : Bool) → eqb (fault_at file first counts k) 0 ≡ t → fault_at file first counts k ≡ 0
+    go true h = eqb-true (fault_at file first counts k) 0 h
+    go false h =
+        sym (fault_named file first counts k (fault_at file first counts k) k refl (eqb-false (fault_at file first counts k) 0 h)) ∙ ap number_of e

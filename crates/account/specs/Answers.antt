@@ -71,6 +71,11 @@ abbrev pub record_of : Answer → ℕ
 record_of (Ok u) = 0
 record_of (Err r) = refusal_record r
 
+-- of what comes back with a value: whether it is refused, and what for
+abbrev pub answer_of : {A : Type 0} → Result A Refusal → Answer
+answer_of (Ok a) = Ok tt
+answer_of (Err r) = Err r
+
 -- the refusal of a record, by its number
 abbrev pub refusal : ℕ → ℕ → Answer
 refusal number k =

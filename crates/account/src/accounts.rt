@@ -13,8 +13,8 @@ ghost use Rattle.account.specs.code.Standing.{Places, Stands, PartOf, ContractPa
 ghost use Rattle.account.specs.code.Standing.{EitherTo, Flagged, listed_in, Numbered, JoinedBy, AloneBy};
 ghost use Rattle.account.specs.code.Surveyed.{Tallied};
 
-use crate::answers::{Refusal, number_of, refusal_of};
-use crate::check::{Survey, length_answer, note_file, note_records};
+use crate::answers::Refusal;
+use crate::check::{Survey, note_file};
 use crate::conversions::rows_answer;
 use crate::notes::{note_at, noted, wide};
 use crate::parts::{CONTRACTS, ENTRIES, OWN, PARTS, RATES, ROWS};
@@ -339,15 +339,10 @@ pub(crate) fn conversions_answer<'a>(morning: &'a [u8], noon: &'a [u8], account:
 {
     let t = rates_of(placed_part(morning, noon, account, RATES));
     let mut k = before_rows(account);
-    let mut c = 0;
-    while c < CONTRACTS {
+    for c in 0..CONTRACTS {
         let rows = placed_part(morning, noon, account, ROWS + c);
-        let answer = rows_answer(t, rows, k);
-        if number_of(answer) != 0 {
-            return answer;
-        }
+        rows_answer(t, rows, k)?;
         k += record_count(rows);
-        c += 1;
     }
     Ok(())
 }
@@ -370,31 +365,16 @@ fn rates_answer(
     Ok(())
 }
 
-// What the check of a file hands out: its answer, and of an accepted file the account.
-#[derive(Clone, Copy)]
-pub struct Checked {
-    pub answer: Result<(), Refusal>,
-    pub account: Account,
-}
-
-pub fn check_file(file: &[u8]) -> Checked
+// What a file is refused for, or its account.
+pub fn check_file(file: &[u8]) -> Result<Account, Refusal>
     ensures { CheckedBy file.now result }
 {
     let whole = anew(file);
     let mut first = [0u16; PARTS];
     let mut counts = [0u16; PARTS];
-    let tally = note_file(whole, &mut first, &mut counts);
-    let answer = tally.answer;
-    let records = record_count(whole);
-    if number_of(answer) != 0 {
-        let none = [0u16; PARTS];
-        let account = in_one_file(&none, &none, 0, records);
-        return Checked { answer, account };
-    }
-    Checked {
-        answer: rates_answer(whole, &first, &counts, tally.contracts, tally.converts),
-        account: in_one_file(&first, &counts, tally.contracts, records),
-    }
+    let noted = note_file(whole, &mut first, &mut counts)?;
+    rates_answer(whole, &first, &counts, noted.contracts, noted.converts)?;
+    Ok(in_one_file(&first, &counts, noted.contracts, record_count(whole)))
 }
 
 // The verdict on any bytes. It needs no account where all rows are in the margin currency.
@@ -402,15 +382,8 @@ pub fn check(file: &[u8]) -> Result<(), Refusal>
     ensures { result ≡ checked file.now }
 {
     let whole = anew(file);
-    let answer = length_answer(whole);
-    if number_of(answer) != 0 {
-        return answer;
-    }
     let mut first = [0u16; PARTS];
     let mut counts = [0u16; PARTS];
-    let noted = note_records(whole, &mut first, &mut counts);
-    if noted.number != 0 {
-        return refusal_of(noted.number, noted.next);
-    }
+    let noted = note_file(whole, &mut first, &mut counts)?;
     rates_answer(whole, &first, &counts, noted.contracts, noted.converts)
 }

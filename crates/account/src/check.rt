@@ -2,16 +2,15 @@
 // stand.
 ghost use Rattle.std.specs.Prelude.{◌≡◌, ◌+◌, ◌≤◌, ◌<◌, length, get_or, set, replicate};
 ghost use Rattle.exact.specs.Lists.{one_if};
-ghost use Rattle.account.specs.Answers.{number_of, refusal};
 ghost use Rattle.account.specs.Check.{most_records};
 ghost use Rattle.account.specs.code.Notes.{one_more, start_noted, fault_at};
 ghost use Rattle.account.specs.PartNumbers.{parts};
 ghost use Rattle.account.specs.Records.{record_count};
 ghost use Rattle.account.specs.Parts.{of_kind};
 ghost use Rattle.account.specs.code.Passing.{Notable, NotedTo, StepBy};
-ghost use Rattle.account.specs.code.Surveyed.{length_checked, Surveyed, Empty, Tallied};
+ghost use Rattle.account.specs.code.Surveyed.{length_checked, Surveyed, Empty, NotedBy};
 
-use crate::answers::{Refusal, number_of, refusal_of};
+use crate::answers::Refusal;
 use crate::conversions::is_other_row;
 use crate::fault::fault_at;
 use crate::notes::{noted, part_of};
@@ -90,90 +89,65 @@ fn one_if_contract(r: &[u8]) -> usize
     if kind(r) == 1 { 1 } else { 0 }
 }
 
-// A step of the check: the fault of a record, or the record to go on at and how many contracts were passed.
+// A step of the check: the record to go on at and how many contracts were passed.
 #[derive(Clone, Copy)]
 pub(crate) struct Step {
-    pub(crate) number: usize,
     pub(crate) next: usize,
     pub(crate) contracts: usize,
 }
 
 // Past record `k`: a run of sound records from it on, or it alone.
-fn go_on(file: &[u8], first: &mut [u16], counts: &mut [u16], k: usize) -> Step
+fn go_on(file: &[u8], first: &mut [u16], counts: &mut [u16], k: usize) -> Result<Step, Refusal>
     requires { Notable file.now first.old counts.old k }
-    ensures { StepBy file.now first.old counts.old k result.number result.next result.contracts first.new
-        counts.new }
+    ensures { StepBy file.now first.old counts.old k result first.new counts.new }
 {
     let next = passes_from(file, first, counts, k);
     if k < next {
         note_to(file, first, counts, k, next);
-        return Step {
-            number: 0,
+        return Ok(Step {
             next,
             contracts: one_if_contract(whole_at(file, k)),
-        };
+        });
     }
-    let number = fault_at(file, first, counts, k);
-    if number != 0 {
-        return Step {
-            number,
-            next: k,
-            contracts: 0,
-        };
-    }
+    fault_at(file, first, counts, k)?;
     note_to(file, first, counts, k, k + 1);
-    Step {
-        number,
+    Ok(Step {
         next: k + 1,
         contracts: one_if_contract(whole_at(file, k)),
-    }
+    })
 }
 
-// All steps: the fault of the last and its record, how many contracts were passed, and whether a row in another currency was. A step that
-// passes one begins with one.
+// All steps: how many contracts were passed, and whether a row in another currency was. A step that passes one begins with one.
 #[derive(Clone, Copy)]
-pub(crate) struct Steps {
-    pub(crate) number: usize,
-    pub(crate) next: usize,
+pub(crate) struct Noted {
     pub(crate) contracts: usize,
     pub(crate) converts: bool,
 }
 
 // The records noted up to the first with a fault, or all of them.
-pub(crate) fn note_records(
+fn note_records(
     file: &[u8],
     first: &mut [u16; PARTS],
     counts: &mut [u16; PARTS],
-) -> Steps
+) -> Result<Noted, Refusal>
     requires { (length_checked file.now ≡ Ok tt) × ((first.old ≡ replicate parts 0) × (counts.old ≡ replicate parts 0)) }
-    ensures tallied { Tallied file.now (refusal result.number result.next) result.contracts result.converts first.new
-        counts.new }
-    ensures named { (result.number ≡ 0 → ⊥) → number_of (refusal result.number result.next) ≡ result.number }
+    ensures { NotedBy file.now result first.new counts.new }
 {
     let count = record_count(file);
     let mut contracts = 0;
     let mut converts = false;
     let mut k = 0;
+    // A while: a step passes a run of records.
     while k < count {
-        let passed = go_on(file, first, counts, k);
-        if passed.number != 0 {
-            return Steps {
-                number: passed.number,
-                next: k,
-                contracts,
-                converts,
-            };
-        }
+        let passed = go_on(file, first, counts, k)?;
         contracts += passed.contracts;
         converts = converts | is_other_row(whole_at(file, k));
         k = passed.next;
     }
-    Steps {
-        number: 0,
-        next: k,
+    Ok(Noted {
         contracts,
         converts,
-    }
+    })
 }
 
 // 1 and 2, of the length of a file.
@@ -189,40 +163,17 @@ pub(crate) fn length_answer(file: &[u8]) -> Result<(), Refusal>
     Ok(())
 }
 
-// A verdict, how many contracts were noted, and whether a row in another currency was.
-#[derive(Clone, Copy)]
-pub(crate) struct Tally {
-    pub answer: Result<(), Refusal>,
-    pub contracts: usize,
-    pub converts: bool,
-}
-
-// The verdict on any bytes, with the parts of an accepted file noted in lent memory.
-pub(crate) fn note_file(file: &[u8], first: &mut [u16; PARTS], counts: &mut [u16; PARTS]) -> Tally
+// What any bytes are refused for, or what is noted of them, with the parts of an accepted file noted in lent memory.
+pub(crate) fn note_file(
+    file: &[u8],
+    first: &mut [u16; PARTS],
+    counts: &mut [u16; PARTS],
+) -> Result<Noted, Refusal>
     requires { (first.old ≡ replicate parts 0) × (counts.old ≡ replicate parts 0) }
-    ensures { Tallied file.now result.answer result.contracts result.converts first.new counts.new }
+    ensures { NotedBy file.now result first.new counts.new }
 {
-    let answer = length_answer(file);
-    if number_of(answer) != 0 {
-        return Tally {
-            answer,
-            contracts: 0,
-            converts: false,
-        };
-    }
-    let noted = note_records(file, first, counts);
-    if noted.number == 0 {
-        return Tally {
-            answer,
-            contracts: noted.contracts,
-            converts: noted.converts,
-        };
-    }
-    Tally {
-        answer: refusal_of(noted.number, noted.next),
-        contracts: noted.contracts,
-        converts: noted.converts,
-    }
+    length_answer(file)?;
+    note_records(file, first, counts)
 }
 
 // The same, handed out.
@@ -231,16 +182,14 @@ pub fn take_survey(file: &[u8]) -> Survey
 {
     let mut first = [0u16; PARTS];
     let mut counts = [0u16; PARTS];
-    let tally = note_file(file, &mut first, &mut counts);
-    let answer = tally.answer;
-    if number_of(answer) != 0 {
-        return refused(answer);
-    }
-    Survey {
-        answer,
-        contracts: tally.contracts,
-        first,
-        counts,
-        converts: tally.converts,
+    match note_file(file, &mut first, &mut counts) {
+        Ok(noted) => Survey {
+            answer: Ok(()),
+            contracts: noted.contracts,
+            first,
+            counts,
+            converts: noted.converts,
+        },
+        Err(refusal) => refused(Err(refusal)),
     }
 }

@@ -8,7 +8,7 @@ ghost use Rattle.account.specs.Conversions.{in_another, other_row, row_answer, R
 ghost use Rattle.account.specs.code.Rates.{RatesOf, HoldsRates};
 ghost use Rattle.account.specs.Records.{records};
 
-use crate::answers::{Refusal, number_of};
+use crate::answers::Refusal;
 use crate::rates::{Rates, conversion_beyond, has_rate};
 use crate::stretches::{record_count, whole_at};
 use record::fields::{currency, kind};
@@ -48,14 +48,8 @@ pub(crate) fn rows_answer(t: Rates, rows: &[u8], k: usize) -> Result<(), Refusal
     requires { Each Row (records rows.now) × (HoldsRates t × (k ≤ 65535)) }
     ensures { (rates : List Record) → RatesOf rates t → Each RateWithin rates → result ≡ first_rate_fault k rates (records rows.now) }
 {
-    let count = record_count(rows);
-    let mut i = 0;
-    while i < count {
-        let answer = row_answer(t, whole_at(rows, i), k + i);
-        if number_of(answer) != 0 {
-            return answer;
-        }
-        i += 1;
+    for i in 0..record_count(rows) {
+        row_answer(t, whole_at(rows, i), k + i)?;
     }
     Ok(())
 }

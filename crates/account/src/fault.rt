@@ -1,8 +1,10 @@
 // The first refusal of a record, 3 to 9 in that order, or 0.
 ghost use Rattle.std.specs.Prelude.{◌≡◌, ◌<◌, eqb};
+ghost use Rattle.account.specs.Answers.{refusal};
 ghost use Rattle.account.specs.code.Notes.{fault_by, fault_at};
 ghost use Rattle.account.specs.Records.{records, record_count};
 
+use crate::answers::{Refusal, refusal_of};
 use crate::limits::over_limit;
 use crate::listed::unlisted;
 use crate::order::{kind_falls, out_of_order};
@@ -50,15 +52,20 @@ fn faultless(counts: &[u16], prompts: &[u8], before: &[u8], r: &[u8]) -> bool
 }
 
 // Of record `k`, from the notes of the records before it.
-pub(crate) fn fault_at(file: &[u8], first: &[u16], counts: &[u16], k: usize) -> usize
+pub(crate) fn fault_at(
+    file: &[u8],
+    first: &[u16],
+    counts: &[u16],
+    k: usize,
+) -> Result<(), Refusal>
     requires { k < record_count file.now }
-    ensures { result ≡ fault_at file.now first.now counts.now k }
+    ensures { result ≡ refusal (fault_at file.now first.now counts.now k) k }
 {
     let r = whole_at(file, k);
     let prompts = part_at(file, first, counts, PROMPTS + contract(r));
     let before = whole_before(file, k);
     if faultless(counts, prompts, before, r) {
-        return 0;
+        return Ok(());
     }
-    fault(counts, prompts, before, r)
+    refusal_of(fault(counts, prompts, before, r), k)
 }

@@ -1,9 +1,11 @@
 -- Where the records of an account stand, in one file or in two, by what the check handed out of them.
 -- Assumes nothing.
-use Rattle.std.specs.Prelude.{ℕ, ◌-◌, ◌*◌, ◌%◌, ◌<◌, ◌≤◌, ◌≡◌, Bool, false, not, ◌&&◌, cond, List, [], ltb, length, get_or, take, drop, replicate, Ok}
+use Rattle.std.specs.Prelude.{ℕ, ◌-◌, ◌*◌, ◌%◌, ◌<◌, ◌≤◌, ◌≡◌, Bool, false, not, ◌&&◌, cond, List, [], ltb, length, get_or, take, drop, replicate, Result, IfOk}
 use Rattle.exact.specs.Lists.{keep, count, sum}
 use Rattle.record.specs.Layout.{Record, record_bytes, contract, most_contract}
 use Rattle.record.specs.Bytes.{count_from}
+use Rattle.account.specs.Answers.{answer_of}
+use Rattle.account.specs.declared.answers.Refusal.{Refusal}
 use Rattle.account.specs.Check.{most_contracts}
 use Rattle.account.specs.Checked.{checked}
 use Rattle.account.specs.Joined.{account_of}
@@ -14,7 +16,6 @@ use Rattle.account.specs.Parts.{of_contract, contracts_of, entries_of, rates_of}
 use Rattle.account.specs.Records.{records, record_count, stretch}
 use Rattle.account.specs.code.Surveyed.{Surveyed}
 use Rattle.account.specs.declared.check.Survey.{Survey}
-use Rattle.account.specs.declared.accounts.Checked.{Checked}
 use Rattle.account.specs.declared.accounts.Account.{Account}
 use Rattle.account.specs.declared.accounts.Whereabouts.{Whereabouts}
 
@@ -114,8 +115,12 @@ abbrev pub ContractPart : List ℕ → List ℕ → ℕ → Whereabouts → List
 ContractPart morning noon k w bytes =
     (j : Account) (c : ℕ) → Stands morning noon j → c ≤ most_contract → WhereOf j c w → PartOf (account_of morning noon) (part k c) bytes
 
--- what the check of one file hands out: its answer, and of an accepted file the account, which stands in it alone
-pub record CheckedBy (file : List ℕ) (r : Checked) : Type 0 where
-  pub answer_is : r.answer ≡ checked file
-  pub alone_by : (s : Survey) → Surveyed file s → AloneBy s.first s.counts (record_count file) r.account
-  pub stands : checked file ≡ Ok tt → (none : List ℕ) → none ≡ [] → Stands file none r.account
+-- the account of an accepted file, which stands in it alone
+pub record StoodIn (file : List ℕ) (a : Account) : Type 0 where
+  pub alone_by : (s : Survey) → Surveyed file s → AloneBy s.first s.counts (record_count file) a
+  pub stands : (none : List ℕ) → none ≡ [] → Stands file none a
+
+-- what one file is refused for, or its account
+pub record CheckedBy (file : List ℕ) (r : Result Account Refusal) : Type 0 where
+  pub answer_is : answer_of r ≡ checked file
+  pub accepted : IfOk r (StoodIn file)

@@ -1,7 +1,7 @@
 -- What the check hands out with its verdict: how many contracts an accepted file lists, of each part where it begins and how many
 -- records it has, and whether any row is in another currency; all 0 and false for a refused file.
 -- Assumes nothing.
-use Rattle.std.specs.Prelude.{ℕ, ◌<◌, ◌≡◌, Bool, false, cond, ◌&&◌, List, eqb, length, get_or, replicate, Ok, Err}
+use Rattle.std.specs.Prelude.{ℕ, ◌<◌, ◌≡◌, Bool, false, cond, ◌&&◌, List, eqb, length, get_or, replicate, Result, Ok, Err, MatchResult}
 use Rattle.exact.specs.Lists.{any}
 use Rattle.account.specs.Answers.{number_of}
 use Rattle.account.specs.Check.{records_checked, too_long, cut_record}
@@ -10,6 +10,8 @@ use Rattle.account.specs.PartNumbers.{parts, contract_count, part_start, part_co
 use Rattle.account.specs.Records.{records}
 use Rattle.account.specs.Answers.{Answer}
 use Rattle.account.specs.declared.answers.Refusal.TheVariants.{TooLong, CutRecord}
+use Rattle.account.specs.declared.answers.Refusal.{Refusal}
+use Rattle.account.specs.declared.check.Noted.{Noted}
 use Rattle.account.specs.declared.check.Survey.{Survey}
 
 -- what is asked of a file before its records: 1 and 2
@@ -42,3 +44,8 @@ pub record Tallied (file : List ℕ) (answer : Answer) (contracts : ℕ) (conver
   pub answer_is : answer ≡ records_checked file
   pub accepted : number_of answer ≡ 0
       → Surveyed file (record { answer = answer; contracts = contracts; first = first; counts = counts; converts = converts })
+
+-- what is noted of a file, or what it is refused for
+abbrev pub NotedBy : List ℕ → Result Noted Refusal → List ℕ → List ℕ → Type 0
+NotedBy file r first counts =
+    MatchResult r (λ (n : Noted). Tallied file (Ok tt) n.contracts n.converts first counts) (λ (e : Refusal). Err e ≡ records_checked file)

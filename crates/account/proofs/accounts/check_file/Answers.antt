@@ -1,47 +1,37 @@
 -- The check's answer, on the records and then on the rates, and the account by what is noted.
 -- Assumes nothing.
-use Rattle.std.specs.Prelude.{Ok}
-use Prim.Native.Nat.{ℕ}
-use mathlib.Core.List.{List}
-use mathlib.Core.Path.{sym, ◌∙◌, subst}
+use Rattle.std.proofs.lemmas.Result.{err_from_is_err_and}
+use Rattle.std.specs.Prelude.{ℕ, List, Ok}
+use mathlib.Core.Path.{ap, refl, subst, sym, ◌∙◌}
 use Rattle.account.specs.code.Standing.{CheckedBy}
-use Rattle.account.specs.code.Surveyed.{Tallied}
-use Rattle.account.proofs.Alone.{checked_refused, tallied_accepted, few_listed, checked_noted}
+use Rattle.account.specs.Checked.{checked}
+use Rattle.account.proofs.AcceptedOnly.{refused_some}
+use Rattle.account.proofs.Alone.{refused_there, few_listed, checked_noted}
 use Rattle.account.proofs.accounts.check_file.Goals as goal
-use Rattle.account.proofs.accounts.check_file.Goals.{Else-number_of-ne0}
 
--- nothing is refused: what is noted, the file taken anew, and what they are to each other
-module _ (c : Else-number_of-ne0) where
-  abbrev file : List ℕ
-  file = c.anew-whole.result.now
-
-  tallied :
-      let t = c.note_file-tally in
-      Tallied file (Ok tt) t.result.contracts t.result.converts t.new.first t.new.counts
-  tallied = tallied_accepted c.note_file-tally.ensures (sym c.number_of.ensures ∙ c.if-number_of-ne0.false)
-
-pub returns-then-number_of-ne0 : goal.returns-then-number_of-ne0
-returns-then-number_of-ne0 c =
-    let t = c.note_file-tally in
+pub returns-in_err-noted : goal.returns-in_err-noted
+returns-in_err-noted c =
     let whole = c.anew-whole in
-    subst (λ (bytes : List ℕ). CheckedBy bytes (record { answer = t.result.answer; account = c.in_one_file-account.result })) whole.ensures
-    (checked_refused whole.result.now t.result.answer c.record_count-records.result c.in_one_file-account.result
-    t.ensures.answer_is (λ z. c.if-number_of-ne0.true (c.number_of.ensures ∙ z)) c.record_count-records.ensures
-    c.in_one_file-account.ensures)
+    let p = err_from_is_err_and c.from_residual.result c.from_residual.ensures.1 in
+    rw (p.1, p.2) (record { answer_is = refused_there whole.result.now _ c.in_err-noted.ensures (refused_some refl) ∙ ap checked whole.ensures; accepted = tt })
 
 pub rates_answer-requires : goal.rates_answer-requires
-rates_answer-requires c = tallied (goal.at.rates_answer-requires c).Else-number_of-ne0
+rates_answer-requires c = c.in_ok-noted.ensures
+
+pub returns-in_err-rates_answer : goal.returns-in_err-rates_answer
+returns-in_err-rates_answer c =
+    let p = err_from_is_err_and c.from_residual-in_err-rates_answer.result c.from_residual-in_err-rates_answer.ensures.1 in
+    rw (p.1, p.2) (record { answer_is = sym c.in_err-rates_answer.was ∙ c.rates_answer.ensures ∙ ap checked c.anew-whole.ensures; accepted = tt })
 
 pub in_one_file-requires : goal.in_one_file-requires
 in_one_file-requires c =
-    let t = c.note_file-tally in
-    few_listed (file (goal.at.in_one_file-requires c).Else-number_of-ne0) t.result.contracts t.new.first t.new.counts (tallied (goal.at.in_one_file-requires c).Else-number_of-ne0)
+    let n = c.note_file.new in
+    few_listed c.anew-whole.result.now c.in_ok-noted.noted.contracts n.first n.counts c.in_ok-noted.ensures
 
 pub returns : goal.returns
 returns c =
-    let t = c.note_file-tally in
-    subst (λ (bytes : List ℕ). CheckedBy bytes (record { answer = c.rates_answer.result; account = c.in_one_file.result }))
-    c.anew-whole.ensures
-    (checked_noted (file (goal.at.returns c).Else-number_of-ne0) t.result.contracts t.new.first t.new.counts (tallied (goal.at.returns c).Else-number_of-ne0)
-    c.record_count-records.result c.in_one_file.result c.record_count-records.ensures c.in_one_file.ensures
-    c.rates_answer.result c.rates_answer.ensures)
+    let n = c.note_file.new in
+    subst (λ (bytes : List ℕ). CheckedBy bytes (Ok c.in_one_file.result)) c.anew-whole.ensures
+    (checked_noted c.anew-whole.result.now c.in_ok-noted.noted.contracts n.first n.counts c.in_ok-noted.ensures
+    c.record_count.result c.in_one_file.result c.record_count.ensures c.in_one_file.ensures
+    (sym c.rates_answer.ensures ∙ c.in_ok-rates_answer.was))

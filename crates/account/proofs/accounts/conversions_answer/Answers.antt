@@ -1,4 +1,4 @@
-use borrow.Author.Rules.{rules}
+use Rattle.std.proofs.lemmas.Result.{err_from_is_err_and}
 use Prim.Native.Nat.{ℕ, ◌+◌}
 use native.Mathlib.Omega.{arith}
 use mathlib.Core.Path.{◌≡◌, sym, ap, ap₂, subst, subst⁻¹, ◌∙◌}
@@ -15,31 +15,25 @@ use Rattle.account.specs.Records.{records, record_count}
 use Rattle.account.specs.Joined.{account_of}
 use Rattle.account.specs.Check.{most_contracts}
 use Rattle.account.specs.PartNumbers.{row_part}
+use Rattle.account.proofs.AcceptedOnly.{refused_some}
 use Rattle.account.proofs.JoinedLaws.{parts_of}
 use Rattle.account.proofs.RateLaws.{rows_on_from, turn_start, turn_next, turn_stop, turn_end, rows_before, before_next, before_few, before_counted}
 use Rattle.account.proofs.RateLaws.{rows_known}
 use Rattle.account.proofs.Standing.{row_part_lem, rate_part_lem}
 use Rattle.account.proofs.Walk.{length_cut}
 use Rattle.account.proofs.accounts.conversions_answer.Goals as goal
-use Rattle.account.proofs.accounts.conversions_answer.Goals.{After-rates_of-t, After-record_count-k, After-rows_answer-answer}
+use Rattle.account.proofs.accounts.conversions_answer.Goals.{After-record_count-k, After-rows_answer}
 
--- with the rates read: the start, the account, and the table holds its rates
-module _ (c : After-rates_of-t) where
-  abbrev account : List Record
-  account = account_of c.args.morning.now c.args.noon.now
-
-  held : RatesOf (rates_of account) c.rates_of-t.result
-  held = subst (λ (rs : List Record). RatesOf rs c.rates_of-t.result) (c.placed_part.ensures.are ∙ rate_part_lem account) c.rates_of-t.ensures
-
--- the head of the turn, the account, and what the rows of the contract answer
-module _ (c : After-rows_answer-answer) where
+-- the account, and what the rows of a contract answer
+module _ (c : After-rows_answer) where
   abbrev all : List Record
-  all = account (goal.at.number_of-requires c).After-rates_of-t
+  all = account_of c.args.morning.now c.args.noon.now
 
-  answered : c.rows_answer-answer.result ≡ first_rate_fault c.loop-c.k (rates_of all) (parts_of all (row_part + c.loop-c.c))
+  answered : c.rows_answer.result ≡ first_rate_fault c.loop-c.k (rates_of all) (parts_of all (row_part + c.loop-c.c))
   answered =
       let l = c.loop-c in
-      c.rows_answer-answer.ensures (rates_of all) (held (goal.at.number_of-requires c).After-rates_of-t) c.requires.1.ranges.rates
+      c.rows_answer.ensures (rates_of all)
+      (subst (λ (rs : List Record). RatesOf rs c.rates_of-t.result) (c.placed_part.ensures.are ∙ rate_part_lem all) c.rates_of-t.ensures) c.requires.1.ranges.rates
       ∙ ap (first_rate_fault l.k (rates_of all)) (c.placed_part-rows.ensures.are ∙ row_part_lem l.c (omega (arith, c.loop-c-test.true)) all)
 
 -- how many rows the contract has, and that they stay within the account
@@ -50,16 +44,16 @@ module _ (c : After-record_count-k) where
   abbrev noon : List Record
   noon = records c.args.noon.now
 
-  counted : c.record_count-k.result ≡ length (parts_of (all (goal.at.overflow_add-k c).After-rows_answer-answer) (row_part + c.loop-c.c))
+  counted : c.record_count-k.result ≡ length (parts_of (all (goal.at.overflow_add-k c).After-rows_answer) (row_part + c.loop-c.c))
   counted =
       let rows = c.placed_part-rows in
       c.record_count-k.ensures ∙ sym (length_cut (record_count rows.result.now) rows.result.now)
-      ∙ ap length (rows.ensures.are ∙ row_part_lem c.loop-c.c (omega (arith, c.loop-c-test.true)) (all (goal.at.overflow_add-k c).After-rows_answer-answer))
+      ∙ ap length (rows.ensures.are ∙ row_part_lem c.loop-c.c (omega (arith, c.loop-c-test.true)) (all (goal.at.overflow_add-k c).After-rows_answer))
 
   next : c.loop-c.k + c.record_count-k.result ≡ rows_before morning noon (c.loop-c.c + 1)
   next =
       let l = c.loop-c in
-      ap₂ ◌+◌ l.invariant.1.0 counted ∙ sym (before_next morning noon l.c)
+      ap₂ ◌+◌ l.invariant.1 counted ∙ sym (before_next morning noon l.c)
 
 pub placed_part-requires : goal.placed_part-requires
 placed_part-requires c = c.requires.0
@@ -73,36 +67,34 @@ loop-c-init c =
     let m = records c.args.morning.now in
     let n = records c.args.noon.now in
     let k = c.before_rows-k.ensures ∙ before_counted m n c.args.account.counts c.requires.0.sizes c.requires.0.counts in
-    (turn_start m n ∙ ap (λ (x : ℕ). rows_on_from m n x 0) (sym k), (k, omega arith))
+    (turn_start m n ∙ ap (λ (x : ℕ). rows_on_from m n x 0) (sym k), k)
 
 pub placed_part-rows-requires : goal.placed_part-rows-requires
 placed_part-rows-requires c =
     c.requires.0
 
-pub rows_answer-answer-requires : goal.rows_answer-answer-requires
-rows_answer-answer-requires c =
-    let a = account (goal.at.rows_answer-answer-requires c).After-rates_of-t in
+pub rows_answer-requires : goal.rows_answer-requires
+rows_answer-requires c =
+    let a = account_of c.args.morning.now c.args.noon.now in
     let l = c.loop-c in
-    let few = before_few (records c.args.morning.now) (records c.args.noon.now) l.c l.invariant.1.1 in
+    let few = before_few (records c.args.morning.now) (records c.args.noon.now) l.c (omega arith) in
     let h = c.loop-c-test.true in (
       subst⁻¹ (Each Row) (c.placed_part-rows.ensures.are ∙ row_part_lem l.c (omega arith) a) (rows_known a c.requires.1 l.c (omega arith)),
       (
-        record { rates = rates_of a; held = held (goal.at.rows_answer-answer-requires c).After-rates_of-t; within = c.requires.1.ranges.rates },
-        omega (arith, l.invariant.1.0, few, c.requires.1.limits.all),
+        record { rates = rates_of a; held = subst (λ (rs : List Record). RatesOf rs c.rates_of-t.result) (c.placed_part.ensures.are ∙ rate_part_lem a) c.rates_of-t.ensures; within = c.requires.1.ranges.rates },
+        omega (arith, l.invariant.1, few, c.requires.1.limits.all),
       ),
     )
 
-pub number_of-requires : goal.number_of-requires
-number_of-requires c = search rules
-
-pub returns-then-number_of-ne0 : goal.returns-then-number_of-ne0
-returns-then-number_of-ne0 c =
+pub returns-in_err-rows_answer : goal.returns-in_err-rows_answer
+returns-in_err-rows_answer c =
     let l = c.loop-c in
-    let a = answered (goal.at.returns-then-number_of-ne0 c).After-rows_answer-answer in
-    a
+    let p = err_from_is_err_and c.from_residual.result c.from_residual.ensures.1 in
+    let e = sym c.in_err-rows_answer.was ∙ answered (goal.at.returns-in_err-rows_answer c).After-rows_answer in
+    rw (p.1, p.2)
+    (e
     ∙ sym (l.invariant.0
-    ∙ turn_stop (records c.args.morning.now) (records c.args.noon.now) l.k l.c c.loop-c-test.true
-    (λ z. c.if-number_of-ne0.true (c.number_of.ensures ∙ ap number_of a ∙ z)))
+    ∙ turn_stop (records c.args.morning.now) (records c.args.noon.now) l.k l.c c.loop-c-test.true (refused_some e)))
 
 pub overflow_add-k : goal.overflow_add-k
 overflow_add-k c =
@@ -113,20 +105,16 @@ overflow_add-k c =
       c.requires.1.limits.all,
     )
 
-pub loop-c-smaller : goal.loop-c-smaller
-loop-c-smaller c = omega (arith, c.loop-c-test.true)
-
 pub loop-c-preserved : goal.loop-c-preserved
 loop-c-preserved c =
     let l = c.loop-c in
     let m = morning c in
     let n = noon c in
-    let h = c.loop-c-test.true in
-    let a = answered (goal.at.loop-c-preserved c).After-rows_answer-answer in (
+    let a = answered (goal.at.loop-c-preserved c).After-rows_answer in (
       l.invariant.0
-          ∙ turn_next m n l.k l.c h (sym (c.number_of.ensures ∙ ap number_of a) ∙ omega (arith, c.if-number_of-ne0.false))
+          ∙ turn_next m n l.k l.c c.loop-c-test.true (ap number_of (sym a ∙ c.in_ok-rows_answer.was))
           ∙ ap (λ (x : ℕ). rows_on_from m n (l.k + x) (l.c + 1)) (sym (counted c)),
-      (next c, omega (arith, h)),
+      next c,
     )
 
 pub returns : goal.returns
@@ -134,5 +122,5 @@ returns c =
     let l = c.loop-c in
     let m = records c.args.morning.now in
     let n = records c.args.noon.now in
-    let e : l.c ≡ most_contracts = omega (arith, c.loop-c-test.false, l.invariant.1.1) in
+    let e : l.c ≡ most_contracts = omega (arith, c.loop-c-test.false) in
     sym (l.invariant.0 ∙ ap (rows_on_from m n l.k) e ∙ turn_end m n l.k)

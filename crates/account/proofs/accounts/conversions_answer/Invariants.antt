@@ -12,7 +12,4 @@ use Rattle.account.proofs.accounts.conversions_answer.Given as goal
 abbrev pub invariant-loop-c : goal.invariant-loop-c
 invariant-loop-c l =
     (rates_checked (account_of l.morning l.noon) ≡ rows_on_from (records l.morning) (records l.noon) l.k l.c)
-    × ((l.k ≡ rows_before (records l.morning) (records l.noon) l.c) × (l.c ≤ most_contracts))
-
-abbrev pub decreases-loop-c : goal.decreases-loop-c
-decreases-loop-c l = most_contracts - l.c
+    × (l.k ≡ rows_before (records l.morning) (records l.noon) l.c)

@@ -1,5 +1,6 @@
 use Prim.Native.Nat.{ℕ, ◌≤◌, ◌<◌}
-use mathlib.Core.Path.{refl, ap, subst⁻¹, ◌∙◌}
+use Rattle.std.proofs.lemmas.Result.{err_from_is_err_and}
+use mathlib.Core.Path.{ap, subst⁻¹, ◌∙◌}
 use mathlib.Core.List.{List}
 use native.Mathlib.Omega.{arith}
 use lib.ListN.{length, replicate}
@@ -11,7 +12,7 @@ use Rattle.account.specs.Conversions.{other_row}
 use Rattle.account.specs.Parts.{of_kind}
 use Rattle.account.specs.Records.{record_at, record_count}
 use Rattle.account.proofs.Going.{Going, going_start, going_stops, owned_small, notable, going_over, met_start, met_over, going_tallied}
-use Rattle.account.proofs.Verdict.{length-fine, fault_named}
+use Rattle.account.proofs.Verdict.{length-fine}
 use Rattle.account.proofs.check.note_records.Goals as goal
 
 pub loop-k-init : goal.loop-k-init
@@ -22,8 +23,8 @@ loop-k-init c =
       met_start file,
     )
 
-pub go_on-passed-requires : goal.go_on-passed-requires
-go_on-passed-requires c =
+pub go_on-requires : goal.go_on-requires
+go_on-requires c =
     let file = c.args.file.now in
     let loop = c.loop-k in
     let more : loop.k < record_count file = omega arith in
@@ -31,26 +32,26 @@ go_on-passed-requires c =
     let few : record_count file ≤ most_records = omega arith in
     notable loop.invariant.0 more few
 
-pub returns-then-passed-ne0 : goal.returns-then-passed-ne0
-returns-then-passed-ne0 c =
+pub returns-in_err-passed : goal.returns-in_err-passed
+returns-in_err-passed c =
     let file = c.args.file.now in
     let loop = c.loop-k in
-    let step = c.go_on-passed in
     let more : loop.k < record_count file = omega arith in
     let fine = length-fine file c.requires.0 in
-    let fault = step.ensures.stops c.if-passed-ne0.true in record { tallied = going_stops loop.invariant.0 more step.result.number fault c.if-passed-ne0.true fine.0 fine.1; named = fault_named file loop.first loop.counts loop.k step.result.number loop.k fault }
+    let p = err_from_is_err_and c.from_residual.result c.from_residual.ensures.1 in
+    rw (p.1, p.2) (going_stops loop.invariant.0 more c.in_err-passed.ensures fine.0 fine.1)
 
 pub overflow_add-contracts : goal.overflow_add-contracts
 overflow_add-contracts c =
     let file = c.args.file.now in
     let loop = c.loop-k in
     let more : loop.k < record_count file = omega arith in
-    let goes = c.go_on-passed.ensures.goes c.if-passed-ne0.false in
+    let goes = c.in_ok-passed.ensures in
     omega (arith, owned_small loop.invariant.0 more, one_at_most (of_kind 1 (record_at file loop.k)), goes.own)
 
 pub loop-k-smaller : goal.loop-k-smaller
 loop-k-smaller c =
-    let goes = c.go_on-passed.ensures.goes c.if-passed-ne0.false in
+    let goes = c.in_ok-passed.ensures in
     let l = goes.later.low in
     omega arith
 
@@ -59,7 +60,7 @@ loop-k-preserved c =
     let file = c.args.file.now in
     let loop = c.loop-k in
     let more : loop.k < record_count file = omega arith in
-    let goes = c.go_on-passed.ensures.goes c.if-passed-ne0.false in
+    let goes = c.in_ok-passed.ensures in
     let met = c.is_other_row-converts in (
       going_over loop.invariant.0 more goes,
       met_over loop.invariant.1 goes met.result (met.ensures ∙ ap other_row c.whole_at.ensures),
@@ -71,4 +72,4 @@ returns c =
     let loop = c.loop-k in
     let done : record_count file ≤ loop.k = omega arith in
     let fine = length-fine file c.requires.0 in
-    record { tallied = going_tallied loop.invariant.0 done loop.invariant.1 fine.0 fine.1; named = λ nz. absurd (nz refl) }
+    going_tallied loop.invariant.0 done loop.invariant.1 fine.0 fine.1

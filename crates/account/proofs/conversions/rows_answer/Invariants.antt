@@ -14,8 +14,4 @@ use Rattle.account.proofs.conversions.rows_answer.Given as goal
 
 abbrev pub invariant-loop-i : goal.invariant-loop-i
 invariant-loop-i l =
-    ((rates : List Record) → RatesOf rates l.t → Each RateWithin rates → first_rate_fault l.k rates (records l.rows) ≡ rows_from rates l.k l.rows l.i)
-    × (l.i ≤ record_count l.rows)
-
-abbrev pub decreases-loop-i : goal.decreases-loop-i
-decreases-loop-i l = l.count - l.i
+    (rates : List Record) → RatesOf rates l.t → Each RateWithin rates → first_rate_fault l.k rates (records l.rows) ≡ rows_from rates l.k l.rows l.i

@@ -4,6 +4,7 @@ use mathlib.Core.Path.{◌≡◌, sym, ap, ◌∙◌}
 use mathlib.Core.List.{List}
 use borrow.Author.Tests.{eqb-true}
 use Rattle.record.specs.Layout.{Record, contract}
+use Rattle.account.specs.Answers.{refusal}
 use Rattle.account.specs.code.Notes.{fault_by, fault_at, part_at, prompts_noted, before_at}
 use Rattle.account.specs.Records.{records, record_at}
 use Rattle.account.specs.PartNumbers.{part}
@@ -40,8 +41,10 @@ pub faultless-requires : goal.faultless-requires
 faultless-requires c = tt
 
 pub returns-then-faultless : goal.returns-then-faultless
-returns-then-faultless c = sym (eqb-true _ 0 (sym c.faultless.ensures ∙ c.if-faultless.true)) ∙ here (goal.at.returns-then-faultless c).After-whole_before-before
+returns-then-faultless c =
+    ap (λ (n : ℕ). refusal n c.args.k) (sym (eqb-true _ 0 (sym c.faultless.ensures ∙ c.if-faultless.true)) ∙ here (goal.at.returns-then-faultless c).After-whole_before-before)
 
 pub returns : goal.returns
 returns c =
-    c.fault.ensures ∙ here (goal.at.returns c).After-whole_before-before
+    c.refusal_of.ensures
+    ∙ ap (λ (n : ℕ). refusal n c.args.k) (c.fault.ensures ∙ here (goal.at.returns c).After-whole_before-before)

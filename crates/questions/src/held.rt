@@ -6,25 +6,27 @@ ghost use Rattle.questions.specs.code.Held.{FromCheck, AllAnswered};
 ghost use Rattle.questions.specs.Questions.{answer_to, after_to, need_to};
 
 use crate::checked::{answer_checked, needed_checked};
-use account::accounts::{Checked, check_file, nothing_of};
-use account::answers::{Refusal, number_of};
+use account::accounts::{Account, check_file, nothing_of};
+use account::answers::Refusal;
 use margin::asking::Question;
 use margin::everything::everything_over;
 
-// A view of a file's bytes with what the check handed out of them. Only `hold` makes one: its fields are of this module
+// A view of a file's bytes with what the check says of them. Only `hold` makes one: its fields are of this module
 // alone.
 #[derive(Clone, Copy)]
 pub struct Held<'a> {
     file: &'a [u8],
-    checked: Checked,
+    checked: Result<Account, Refusal>,
 }
 
 // "Only the check hands out such a held file." A refused file is held with its refusal.
 pub fn hold<'a>(file: &'a [u8]) -> Held<'a>
     ensures { (result.file ≡ file.entry) × FromCheck result }
 {
-    let checked = check_file(file);
-    Held { file, checked }
+    Held {
+        file,
+        checked: check_file(file),
+    }
 }
 
 // What a file is answered that is asked for everything: its figures, the books of all questions, and their uses.
@@ -38,7 +40,7 @@ pub struct Asked {
 // Everything that a checked file is asked for, its positions worked out once.
 fn everything(
     file: &[u8],
-    checked: Checked,
+    checked: Result<Account, Refusal>,
     figures: &mut [i64],
     books: &mut [i64],
     uses: &mut [i64],
@@ -47,23 +49,20 @@ fn everything(
     ensures { AllAnswered file.now figures.old books.old uses.old result figures.new
         books.new uses.new }
 {
-    let answer = checked.answer;
-    if number_of(answer) != 0 {
-        return Asked {
-            figures: answer,
-            books: answer,
-            uses: answer,
-        };
-    }
-    let account = checked.account;
-    let all = everything_over(file, nothing_of(file), account, figures, books, uses);
-    let of_figures = all.figures;
-    let of_books = all.books;
-    let of_uses = all.uses;
-    Asked {
-        figures: of_figures,
-        books: of_books,
-        uses: of_uses,
+    match checked {
+        Ok(account) => {
+            let all = everything_over(file, nothing_of(file), account, figures, books, uses);
+            Asked {
+                figures: all.figures,
+                books: all.books,
+                uses: all.uses,
+            }
+        }
+        Err(refusal) => Asked {
+            figures: Err(refusal),
+            books: Err(refusal),
+            uses: Err(refusal),
+        },
     }
 }
 

@@ -13,14 +13,12 @@ pub fn answer(file: &[u8], question: Question, out: &mut [i64]) -> Result<(), Re
     ensures { (result ≡ answer_to file.now question (length out.old))
         × (out.new ≡ after_to file.now question out.old) }
 {
-    let checked = check_file(file);
-    answer_checked(file, checked, question, out)
+    answer_checked(file, check_file(file), question, out)
 }
 
 // How many numbers the answer of a question has, 0 where the file is refused or does not answer it.
 pub fn needed(file: &[u8], question: Question) -> usize
     ensures { (result ≡ need_to file.now question) × (result ≤ most_for question) }
 {
-    let checked = check_file(file);
-    needed_checked(file, checked, question)
+    needed_checked(file, check_file(file), question)
 }

@@ -68,12 +68,12 @@ sum_alike f g e zero = refl
 sum_alike f g e (suc n) = ap₂ (λ (a b : ℕ). a + b) (sum_alike f g e n) (e n)
 
 -- ---- an account that stands in one file
-module _ (file : List ℕ) (account : Account) (by : CheckedBy file (record { answer = Ok tt; account = account })) where
+module _ (file : List ℕ) (account : Account) (by : CheckedBy file (Ok account)) where
   pub file_ok : checked file ≡ Ok tt
   file_ok = sym by.answer_is
 
   pub stands_in : (none : List ℕ) → none ≡ [] → Stands file none account
-  stands_in none e = by.stands file_ok none e
+  stands_in none e = by.accepted.stands none e
 
   same : account_of file [] ≡ records file
   same = alone file [] refl (plain file file_ok).recorded
@@ -313,7 +313,7 @@ none-beyond n c (r ∷ rs) h e =
     let z : of_contract n c r ≡ false = ap (λ (b : Bool). of_kind n r && b) (ne_eqb (contract r) c (λ i. omega arith)) ∙ and-false (of_kind n r) in
     ap₂ (λ (b : Bool) (i : ℕ). one_if b + i) z (none-beyond n c rs h e.1)
 
-module _ (file : List ℕ) (account : Account) (by : CheckedBy file (record { answer = Ok tt; account = account })) where
+module _ (file : List ℕ) (account : Account) (by : CheckedBy file (Ok account)) where
   -- how many records of a kind each contract has
   totals_are : (n : ℕ) → n ≤ 4 → (xs : List ℕ) → Filled most_contracts (λ c. get_or account.counts (part n c) 0) xs → (c : ℕ)
       → get_or xs c 0 ≡ count (of_contract n c) (records file)
@@ -366,7 +366,7 @@ module _ (file : List ℕ) (account : Account) (by : CheckedBy file (record { an
       → Filled most_contracts (λ c. get_or account.counts (part 3 c) 0) k.rows → CountsOf file [] k
   counts_start k prompts a z filled e rows =
       record {
-        from_check = subst⁻¹ (λ (x : Account). CheckedBy file (record { answer = Ok tt; account = x })) a by;
+        from_check = subst⁻¹ (λ (x : Account). CheckedBy file (Ok x)) a by;
         taken = λ n h. absurd (omega arith);
         many = z;
         above_is =
@@ -421,7 +421,7 @@ pub counts_more :
     → OneMore (contract t) k m → CountsOf file (ts ++ t ∷ []) m
 counts_more file ts t k m co h more =
     record {
-      from_check = subst⁻¹ (λ (x : Account). CheckedBy file (record { answer = Ok tt; account = x })) more.account_is co.from_check;
+      from_check = subst⁻¹ (λ (x : Account). CheckedBy file (Ok x)) more.account_is co.from_check;
       taken = taken_more file ts t co.taken h;
       many = more.tickets_are ∙ ap (λ (n : ℕ). n + 1) co.many ∙ sym (length-append ts (t ∷ []));
       above_is = more.above_is ∙ co.above_is;
@@ -466,7 +466,7 @@ module _ (file : List ℕ) (ts : List Record) (t : Record) (k : Counts) (co : Co
   pub counts_less : (m : Counts) → OneLess (contract t) k m → CountsOf file ts m
   counts_less m less =
       record {
-        from_check = subst⁻¹ (λ (x : Account). CheckedBy file (record { answer = Ok tt; account = x })) less.account_is co.from_check;
+        from_check = subst⁻¹ (λ (x : Account). CheckedBy file (Ok x)) less.account_is co.from_check;
         taken = taken_less file ts t co.taken;
         many = less.tickets_are ∙ omega (arith, co.many, length-append ts (t ∷ []));
         above_is = less.above_is ∙ co.above_is;

@@ -12,7 +12,6 @@ use lib.Seq.{ext_get_or}
 use Rattle.record.specs.Layout.{Record}
 use Rattle.account.specs.Answers.{number_of, record_of}
 use Rattle.account.specs.Records.{records}
-use Rattle.account.specs.declared.accounts.Checked.{Checked}
 use Rattle.account.specs.declared.answers.Refusal.TheVariants.{NoTicketLeft}
 use Rattle.account.proofs.OneJoined.{one_file_lem}
 use Rattle.margin.proofs.PositionsLaws.{one_positions}
@@ -25,12 +24,12 @@ use Rattle.tickets.specs.declared.kept.Kept.{Kept}
 
 one_counts : (file : List ℕ) (ts : List Record) (a b : Counts) → CountsOf file ts a → CountsOf file ts b → a ≡ b
 one_counts file ts a b x y =
-    let accounts =
-    one_file_lem file (record { answer = Ok tt; account = a.account }) (record { answer = Ok tt; account = b.account }) x.from_check y.from_check in
+    let same = one_file_lem file (Ok a.account) (Ok b.account) x.from_check y.from_check in
+    let account : a.account ≡ b.account = cc in
     let rows = ext_get_or 0 a.rows b.rows (x.places ∙ sym y.places) (λ c h. x.rows_are c ∙ sym (y.rows_are c)) in
     λ i.
     record {
-      account = ap (λ (r : Checked). r.account) accounts i;
+      account = account i;
       above = (x.above_is ∙ sym y.above_is) i;
       rows = rows i;
       tickets = (x.many ∙ sym y.many) i;

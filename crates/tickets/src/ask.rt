@@ -116,13 +116,10 @@ fn ask_kept(file: &[u8], kept: Kept, tickets: &[u8], ticket: &[u8]) -> Asked
 pub fn ask(file: &[u8], tickets: &[u8], ticket: &[u8]) -> Asked
     ensures { result ≡ asked_about file.now (tickets_in tickets.now) ticket.now }
 {
-    let checked = check_file(file);
-    let answer = checked.answer;
-    if number_of(answer) != 0 {
-        return refused(0, answer);
+    match check_file(file) {
+        Ok(account) => ask_kept(file, keep(file, account), tickets, ticket),
+        Err(refusal) => refused(0, Err(refusal)),
     }
-    let account = checked.account;
-    ask_kept(file, keep(file, account), tickets, ticket)
 }
 
 fn withdraw_kept(file: &[u8], kept: Kept, tickets: &[u8]) -> Asked
@@ -154,11 +151,8 @@ fn withdraw_kept(file: &[u8], kept: Kept, tickets: &[u8]) -> Asked
 pub fn ask_withdrawn(file: &[u8], tickets: &[u8]) -> Asked
     ensures { result ≡ withdrawn_from file.now (tickets_in tickets.now) }
 {
-    let checked = check_file(file);
-    let answer = checked.answer;
-    if number_of(answer) != 0 {
-        return refused(0, answer);
+    match check_file(file) {
+        Ok(account) => withdraw_kept(file, keep(file, account), tickets),
+        Err(refusal) => refused(0, Err(refusal)),
     }
-    let account = checked.account;
-    withdraw_kept(file, keep(file, account), tickets)
 }

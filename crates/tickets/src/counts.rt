@@ -85,7 +85,7 @@ fn sum_of(numbers: &[usize], n: usize) -> usize
 
 // The counts of a file without tickets.
 pub fn counts_of<'a>(file: &'a [u8], none: &'a [u8], account: Account) -> Counts
-    requires { (none.now ≡ []) × CheckedBy file.now (record { answer = Ok tt; account = account }) }
+    requires { (none.now ≡ []) × CheckedBy file.now (Ok account) }
     ensures { CountsOf file.now [] result }
 {
     let prompts = totals_of(account, PROMPTS);

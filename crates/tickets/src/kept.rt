@@ -40,7 +40,7 @@ pub struct Keeping {
 
 // The account that the check of an accepted file handed out, kept, without tickets.
 pub fn keep(file: &[u8], account: Account) -> Kept
-    requires { CheckedBy file.now (record { answer = Ok tt; account = account }) }
+    requires { CheckedBy file.now (Ok account) }
     ensures { KeptBy file.now [] result }
 {
     let none = nothing_of(file);

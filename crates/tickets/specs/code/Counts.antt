@@ -18,7 +18,7 @@ TakenRows file tickets =
     (n : ℕ) → n < length tickets → ticket_checked (with_tickets file (take n tickets)) (get_or tickets n []) ≡ Ok tt
 
 pub record CountsOf (file : List ℕ) (tickets : List Record) (k : Counts) : Type 0 where
-  pub from_check : CheckedBy file (record { answer = Ok tt; account = k.account })
+  pub from_check : CheckedBy file (Ok k.account)
   pub taken : TakenRows file tickets
   pub many : k.tickets ≡ length tickets
   pub above_is : k.above ≡ count (of_kind 1) (records file) + count (of_kind 2) (records file)

@@ -1,23 +1,21 @@
 -- The file is checked first.
 -- Assumes nothing.
-use mathlib.Core.Path.{sym, ◌∙◌}
-use Rattle.account.proofs.AcceptedOnly.{accepted_only}
+use Rattle.std.specs.Prelude.{Result, Ok, Err}
+use mathlib.Core.Path.{refl, subst, ◌∙◌}
+use Rattle.account.specs.code.Standing.{CheckedBy}
+use Rattle.account.specs.declared.accounts.Account.{Account}
+use Rattle.account.specs.declared.answers.Refusal.{Refusal}
+use Rattle.account.proofs.AcceptedOnly.{refused_some}
 use Rattle.tickets.specs.Asked.{tickets_in}
 use Rattle.tickets.proofs.AskLaws.{withdraw_no_file}
 use Rattle.tickets.proofs.ask.ask_withdrawn.Goals as goal
 
-pub returns-then-number_of-ne0 : goal.returns-then-number_of-ne0
-returns-then-number_of-ne0 c =
-    let r = c.check_file-checked in
-    c.refused.ensures
-    ∙ withdraw_no_file c.args.file.now (tickets_in c.args.tickets.now) r.result.answer r.ensures.answer_is
-    (λ z. c.if-number_of-ne0.true (c.number_of.ensures ∙ z))
-
 pub keep-requires : goal.keep-requires
 keep-requires c =
-    let r = c.check_file-checked in
-    record {
-      answer_is = sym (accepted_only r.result.answer (sym c.number_of.ensures ∙ c.if-number_of-ne0.false)) ∙ r.ensures.answer_is;
-      alone_by = r.ensures.alone_by;
-      stands = r.ensures.stands;
-    }
+    subst (λ (r : Result Account Refusal). CheckedBy c.args.file.now r) c.in-Ok.is c.check_file.ensures
+
+pub returns-in-Err : goal.returns-in-Err
+returns-in-Err c =
+    let by = subst (λ (r : Result Account Refusal). CheckedBy c.args.file.now r) c.in-Err.is c.check_file.ensures in
+    c.refused.ensures
+    ∙ withdraw_no_file c.args.file.now (tickets_in c.args.tickets.now) (Err c.in-Err.refusal) by.answer_is (refused_some refl)

@@ -1,12 +1,12 @@
 // What a dealer asks, over plain bytes: the margin before and after one ticket more, and before and after the latest is withdrawn.
 ghost use Rattle.std.specs.Prelude.{◌≡◌, [], length};
-ghost use Rattle.tickets.specs.Asked.{tickets_in, of, refused_by, asked_about, withdrawn_from};
+ghost use Rattle.tickets.specs.Asked.{tickets_in, refused_by, asked_about, withdrawn_from};
 ghost use Rattle.tickets.specs.code.Held.{HeldWith};
 ghost use Rattle.tickets.specs.code.Kept.{KeptBy};
 
 use crate::kept::{Kept, add, keep, kept_total, withdraw};
 use account::accounts::check_file;
-use account::answers::{Refusal, number_of};
+use account::answers::Refusal;
 use account::stretches::record_at;
 use formulas::amount::Amount;
 use record::bytes::RECORD_BYTES;
@@ -27,20 +27,19 @@ pub struct Asked {
     pub after: Amount,
 }
 
-// A file with its tickets: which is refused, or how many there are, and the account kept.
+// A file with its tickets: how many there are, and the account kept.
 #[derive(Clone, Copy)]
 pub struct Holding {
-    pub ticket: usize,
-    pub answer: Result<(), Refusal>,
+    pub count: usize,
     pub kept: Kept,
 }
 
-fn refused(ticket: usize, answer: Result<(), Refusal>) -> Asked
-    ensures { result ≡ refused_by (of ticket answer) }
+fn refused(told: Ticketed) -> Asked
+    ensures { result ≡ refused_by told }
 {
     Asked {
-        ticket,
-        answer,
+        ticket: told.ticket,
+        answer: told.answer,
         before: Amount(0),
         after: Amount(0),
     }
@@ -57,57 +56,45 @@ fn ticket_count(tickets: &[u8]) -> usize
     whole + 1
 }
 
-// Tickets in turn, each put in where it is accepted.
-fn put_in(file: &[u8], kept: Kept, tickets: &[u8]) -> Holding
+// Tickets in turn, up to the first that is refused.
+fn put_in(file: &[u8], kept: Kept, tickets: &[u8]) -> Result<Holding, Ticketed>
     requires { KeptBy file.now [] kept }
     ensures { HeldWith file.now (tickets_in tickets.now) result }
 {
     let count = ticket_count(tickets);
     let mut held = kept;
-    let mut i = 0;
-    while i < count {
-        let added = add(file, held, record_at(tickets, i));
-        let answer = added.answer;
-        if number_of(answer) != 0 {
-            return Holding {
-                ticket: i + 1,
-                answer,
-                kept: held,
-            };
+    for i in 0..count {
+        match add(file, held, record_at(tickets, i)) {
+            Ok(more) => held = more,
+            Err(refusal) => {
+                return Err(Ticketed {
+                    ticket: i + 1,
+                    answer: Err(refusal),
+                });
+            }
         }
-        let more = added.kept;
-        held = more;
-        i += 1;
     }
-    Holding {
-        ticket: count,
-        answer: Ok(()),
-        kept: held,
-    }
+    Ok(Holding { count, kept: held })
 }
 
 fn ask_kept(file: &[u8], kept: Kept, tickets: &[u8], ticket: &[u8]) -> Asked
     requires { KeptBy file.now [] kept }
     ensures { result ≡ asked_about file.now (tickets_in tickets.now) ticket.now }
 {
-    let holding = put_in(file, kept, tickets);
-    let count = holding.ticket;
-    let answer = holding.answer;
-    if number_of(answer) != 0 {
-        return refused(count, answer);
-    }
-    let held = holding.kept;
-    let added = add(file, held, ticket);
-    let told = added.answer;
-    if number_of(told) != 0 {
-        return refused(count + 1, told);
-    }
-    let more = added.kept;
-    Asked {
-        ticket: count + 1,
-        answer: told,
-        before: kept_total(file, held),
-        after: kept_total(file, more),
+    match put_in(file, kept, tickets) {
+        Err(told) => refused(told),
+        Ok(held) => match add(file, held.kept, ticket) {
+            Err(refusal) => refused(Ticketed {
+                ticket: held.count + 1,
+                answer: Err(refusal),
+            }),
+            Ok(more) => Asked {
+                ticket: held.count + 1,
+                answer: Ok(()),
+                before: kept_total(file, held.kept),
+                after: kept_total(file, more),
+            },
+        },
     }
 }
 
@@ -118,7 +105,10 @@ pub fn ask(file: &[u8], tickets: &[u8], ticket: &[u8]) -> Asked
 {
     match check_file(file) {
         Ok(account) => ask_kept(file, keep(file, account), tickets, ticket),
-        Err(refusal) => refused(0, Err(refusal)),
+        Err(refusal) => refused(Ticketed {
+            ticket: 0,
+            answer: Err(refusal),
+        }),
     }
 }
 
@@ -126,24 +116,20 @@ fn withdraw_kept(file: &[u8], kept: Kept, tickets: &[u8]) -> Asked
     requires { KeptBy file.now [] kept }
     ensures { result ≡ withdrawn_from file.now (tickets_in tickets.now) }
 {
-    let holding = put_in(file, kept, tickets);
-    let count = holding.ticket;
-    let answer = holding.answer;
-    if number_of(answer) != 0 {
-        return refused(count, answer);
-    }
-    let held = holding.kept;
-    let left = withdraw(file, tickets, held);
-    let told = left.answer;
-    if number_of(told) != 0 {
-        return refused(count, told);
-    }
-    let less = left.kept;
-    Asked {
-        ticket: count,
-        answer: told,
-        before: kept_total(file, held),
-        after: kept_total(file, less),
+    match put_in(file, kept, tickets) {
+        Err(told) => refused(told),
+        Ok(held) => match withdraw(file, tickets, held.kept) {
+            Err(refusal) => refused(Ticketed {
+                ticket: held.count,
+                answer: Err(refusal),
+            }),
+            Ok(less) => Asked {
+                ticket: held.count,
+                answer: Ok(()),
+                before: kept_total(file, held.kept),
+                after: kept_total(file, less),
+            },
+        },
     }
 }
 
@@ -153,6 +139,9 @@ pub fn ask_withdrawn(file: &[u8], tickets: &[u8]) -> Asked
 {
     match check_file(file) {
         Ok(account) => withdraw_kept(file, keep(file, account), tickets),
-        Err(refusal) => refused(0, Err(refusal)),
+        Err(refusal) => refused(Ticketed {
+            ticket: 0,
+            answer: Err(refusal),
+        }),
     }
 }

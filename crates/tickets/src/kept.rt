@@ -13,7 +13,7 @@ ghost use Rattle.tickets.specs.Ticket.{with_tickets};
 
 use crate::counts::{Counts, account_of, check_ticket, counts_of, one_less, one_more, tickets_of};
 use account::accounts::{Account, nothing_of, part};
-use account::answers::{Refusal, number_of};
+use account::answers::Refusal;
 use account::parts::{OWN, PROMPTS, RATES};
 use account::rates::rates_of;
 use account::stretches::record_at;
@@ -29,13 +29,6 @@ use record::fields::{contract, unit};
 pub struct Kept {
     counts: Counts,
     positions: Positions,
-}
-
-// What a call is told, and the account kept afterwards.
-#[derive(Clone, Copy)]
-pub struct Keeping {
-    pub answer: Result<(), Refusal>,
-    pub kept: Kept,
 }
 
 // The account that the check of an accepted file handed out, kept, without tickets.
@@ -92,49 +85,33 @@ fn without_row<'a>(file: &'a [u8], none: &'a [u8], kept: Kept, row: &[u8]) -> Po
     }
 }
 
-// One ticket more, put last among its contract's rows. A refusal changes nothing.
-pub fn add(file: &[u8], kept: Kept, ticket: &[u8]) -> Keeping
+// One ticket more, put last among its contract's rows.
+pub fn add(file: &[u8], kept: Kept, ticket: &[u8]) -> Result<Kept, Refusal>
     requires { Keeps file.now kept }
     ensures { AddedTo file.now kept ticket.now result }
 {
     let none = nothing_of(file);
-    let counts = kept.counts;
-    let answer = check_ticket(file, none, counts, ticket);
-    if number_of(answer) != 0 {
-        return Keeping { answer, kept };
-    }
-    let positions = with_row(file, none, kept, ticket);
-    let more = Kept {
-        counts: one_more(counts, contract(ticket)),
-        positions,
-    };
-    Keeping { answer, kept: more }
+    check_ticket(file, none, kept.counts, ticket)?;
+    Ok(Kept {
+        counts: one_more(kept.counts, contract(ticket)),
+        positions: with_row(file, none, kept, ticket),
+    })
 }
 
-// The latest ticket withdrawn: `tickets` holds those put in so far, one after the other. A refusal changes nothing.
-pub fn withdraw(file: &[u8], tickets: &[u8], kept: Kept) -> Keeping
+// The latest ticket withdrawn: `tickets` holds those put in so far, one after the other.
+pub fn withdraw(file: &[u8], tickets: &[u8], kept: Kept) -> Result<Kept, Refusal>
     requires { KeptBy file.now (cut kept.counts.tickets tickets.now) kept }
     ensures { WithdrawnFrom file.now tickets.now kept result }
 {
-    let counts = kept.counts;
-    let count = tickets_of(counts);
+    let count = tickets_of(kept.counts);
     if count == 0 {
-        return Keeping {
-            answer: Err(Refusal::NoTicketLeft),
-            kept,
-        };
+        return Err(Refusal::NoTicketLeft);
     }
-    let none = nothing_of(file);
     let ticket = record_at(tickets, count - 1);
-    let positions = without_row(file, none, kept, ticket);
-    let less = Kept {
-        counts: one_less(counts, contract(ticket)),
-        positions,
-    };
-    Keeping {
-        answer: Ok(()),
-        kept: less,
-    }
+    Ok(Kept {
+        counts: one_less(kept.counts, contract(ticket)),
+        positions: without_row(file, nothing_of(file), kept, ticket),
+    })
 }
 
 // The total of the margins.

@@ -1,4 +1,5 @@
-use mathlib.Core.Path.{◌≡◌, sym, ap, ◌∙◌, subst}
+use Rattle.std.specs.Prelude.{Result, Err}
+use mathlib.Core.Path.{◌≡◌, refl, sym, ap, ◌∙◌, subst}
 use mathlib.Core.List.{List, [], ◌∷◌, ◌++◌}
 use Prim.Native.Nat.{ℕ, ◌+◌, ◌/◌}
 use native.Mathlib.Omega.{arith}
@@ -6,16 +7,19 @@ use native.Mathlib.Numerals.{add-one}
 use lib.ListN.{length}
 use Rattle.record.specs.Bytes.{record_bytes}
 use Rattle.record.specs.Layout.{Record}
-use Rattle.account.specs.Answers.{number_of}
+use Rattle.account.specs.Answers.{answer_of, number_of}
 use Rattle.account.specs.Records.{record_at, cut}
+use Rattle.account.specs.declared.answers.Refusal.{Refusal}
+use Rattle.account.proofs.AcceptedOnly.{refused_some}
 use Rattle.account.proofs.Earlier.{cut_more}
 use Rattle.account.proofs.Walk.{length_cut}
 use Rattle.tickets.specs.Asked.{tickets_in, one_by_one}
-use Rattle.tickets.specs.code.Kept.{KeptBy}
+use Rattle.tickets.specs.code.Kept.{AddedTo, KeptBy}
 use Rattle.tickets.specs.Ticket.{with_tickets, ticket_checked}
 use Rattle.tickets.specs.declared.kept.Kept.{Kept}
 use Rattle.tickets.proofs.AskLaws.{FromOn, from_start, from_next, from_stops, from_end}
 use Rattle.tickets.proofs.ask.put_in.Goals as goal
+use Rattle.tickets.proofs.ask.put_in.Goals.{After-add}
 
 -- as many as there are
 all : (bytes : List ℕ) (n : ℕ) → n ≡ length (tickets_in bytes) → cut n bytes ≡ tickets_in bytes
@@ -27,44 +31,41 @@ next file bytes k i t e kb =
     subst (λ (ts : List Record). KeptBy file ts k)
     (ap (λ (x : Record). cut i bytes ++ x ∷ []) e ∙ sym (cut_more i bytes) ∙ ap (λ (m : ℕ). cut m bytes) (sym (add-one i))) kb
 
+-- what is told of a ticket
+module _ (c : After-add) where
+  told : answer_of c.add.result
+      ≡ ticket_checked (with_tickets c.args.file.now (cut c.loop-i.i c.args.tickets.now)) (record_at c.args.tickets.now c.loop-i.i)
+  told =
+      let bytes = c.args.tickets.now in
+      let l = c.loop-i in
+      c.add.ensures.told (cut l.i bytes) l.invariant.0
+      ∙ ap (ticket_checked (with_tickets c.args.file.now (cut l.i bytes))) c.record_at.ensures
+
+  by : (r : Result Kept Refusal) → c.add.result ≡ r → AddedTo c.args.file.now c.loop-i.held c.record_at.result.now r
+  by r e = subst (λ (x : Result Kept Refusal). AddedTo c.args.file.now c.loop-i.held c.record_at.result.now x) e c.add.ensures
+
 pub loop-i-init : goal.loop-i-init
 loop-i-init c =
-    (omega arith, (c.requires, from_start c.args.file.now c.args.tickets.now c.ticket_count-count.result))
+    (c.requires, from_start c.args.file.now c.args.tickets.now c.ticket_count-count.result)
 
-pub add-added-requires : goal.add-added-requires
-add-added-requires c =
+pub add-requires : goal.add-requires
+add-requires c =
     let l = c.loop-i in
-    record { tickets = cut l.i c.args.tickets.now; kept = l.invariant.1.0 }
+    record { tickets = cut l.i c.args.tickets.now; kept = l.invariant.0 }
 
-pub overflow_add-result : goal.overflow_add-result
-overflow_add-result c =
-    omega (arith, c.loop-i-test.true)
-
-pub returns-then-number_of-ne0 : goal.returns-then-number_of-ne0
-returns-then-number_of-ne0 c =
+pub returns-in-Err : goal.returns-in-Err
+returns-in-Err c =
     let file = c.args.file.now in
     let bytes = c.args.tickets.now in
     let l = c.loop-i in
     let n = c.ticket_count-count.result in
-    let a = c.add-added in
-    let nz : number_of a.result.answer ≡ 0 → ⊥ = λ z. c.if-number_of-ne0.true (c.number_of.ensures ∙ z) in
+    let e = sym (ap answer_of c.in-Err.is) ∙ told (goal.at.returns-in-Err c).After-add in
     record {
       told =
-          from_stops file bytes n l.i c.loop-i-test.true a.result.answer
-          (a.ensures.told (cut l.i bytes) l.invariant.1.0 ∙ ap (ticket_checked (with_tickets file (cut l.i bytes)))
-          c.record_at.ensures) nz
-          ∙ sym l.invariant.1.1 ∙ ap (one_by_one 0 file) (all bytes n c.ticket_count-count.ensures);
-      many = λ z. absurd (nz z);
-      kept = λ z. absurd (nz z);
+          from_stops file bytes n l.i c.loop-i-test.true (Err c.in-Err.refusal) e (refused_some refl)
+          ∙ sym l.invariant.1 ∙ ap (one_by_one 0 file) (all bytes n c.ticket_count-count.ensures);
+      some = refused_some refl;
     }
-
-pub overflow_add-i : goal.overflow_add-i
-overflow_add-i c =
-    omega (arith, c.loop-i-test.true)
-
-pub loop-i-smaller : goal.loop-i-smaller
-loop-i-smaller c =
-    omega (arith, c.loop-i-test.true)
 
 pub loop-i-preserved : goal.loop-i-preserved
 loop-i-preserved c =
@@ -72,16 +73,10 @@ loop-i-preserved c =
     let bytes = c.args.tickets.now in
     let l = c.loop-i in
     let n = c.ticket_count-count.result in
-    let a = c.add-added in
-    let z : number_of a.result.answer ≡ 0 = sym c.number_of.ensures ∙ c.if-number_of-ne0.false in
-    let told = a.ensures.told (cut l.i bytes) l.invariant.1.0 ∙ ap (ticket_checked (with_tickets file (cut l.i bytes)))
-    c.record_at.ensures in (
-      omega (arith, c.loop-i-test.true),
-      (
-        next file bytes a.result.kept l.i c.record_at.result.now
-            c.record_at.ensures (a.ensures.accepted z (cut l.i bytes) l.invariant.1.0),
-        l.invariant.1.1 ∙ from_next file bytes n l.i c.loop-i-test.true (sym (ap number_of told) ∙ z),
-      ),
+    let e = sym (ap answer_of c.in-Ok.is) ∙ told (goal.at.loop-i-preserved c).After-add in
+    let added = by (goal.at.loop-i-preserved c).After-add _ c.in-Ok.is in (
+      next file bytes c.in-Ok.more l.i c.record_at.result.now c.record_at.ensures (added.accepted (cut l.i bytes) l.invariant.0),
+      l.invariant.1 ∙ from_next file bytes n l.i c.loop-i-test.true (ap number_of (sym e)),
     )
 
 pub returns : goal.returns
@@ -90,10 +85,10 @@ returns c =
     let bytes = c.args.tickets.now in
     let l = c.loop-i in
     let n = c.ticket_count-count.result in
-    let e : l.i ≡ n = omega (arith, l.invariant.0, c.loop-i-test.false) in
+    let e : l.i ≡ n = omega (arith, c.loop-i-test.false) in
     let there = all bytes n c.ticket_count-count.ensures in
     record {
-      told = from_end file bytes n n (omega arith) ∙ ap (FromOn file bytes n) (sym e) ∙ sym l.invariant.1.1 ∙ ap (one_by_one 0 file) there;
-      many = λ z. c.ticket_count-count.ensures;
-      kept = λ z. subst (λ (ts : List Record). KeptBy file ts l.held) (ap (λ (m : ℕ). cut m bytes) e ∙ there) l.invariant.1.0;
+      told = from_end file bytes n n (omega arith) ∙ ap (FromOn file bytes n) (sym e) ∙ sym l.invariant.1 ∙ ap (one_by_one 0 file) there;
+      many = c.ticket_count-count.ensures;
+      kept = subst (λ (ts : List Record). KeptBy file ts l.held) (ap (λ (m : ℕ). cut m bytes) e ∙ there) l.invariant.0;
     }

@@ -10,7 +10,4 @@ use Rattle.tickets.proofs.ask.put_in.Given as goal
 
 abbrev pub invariant-loop-i : goal.invariant-loop-i
 invariant-loop-i l =
-    (l.i ≤ l.count) × (KeptBy l.file (cut l.i l.tickets) l.held × (one_by_one 0 l.file (cut l.count l.tickets) ≡ FromOn l.file l.tickets l.count l.i))
-
-abbrev pub decreases-loop-i : goal.decreases-loop-i
-decreases-loop-i l = l.count - l.i
+    KeptBy l.file (cut l.i l.tickets) l.held × (one_by_one 0 l.file (cut l.count l.tickets) ≡ FromOn l.file l.tickets l.count l.i)

@@ -1,93 +1,64 @@
 -- The file with its tickets, then without the latest.
 -- Assumes nothing.
-use mathlib.Core.Path.{◌≡◌, refl, sym, ap, ◌∙◌}
+use Rattle.std.specs.Prelude.{Ok, Err}
+use mathlib.Core.Path.{refl, sym, ap, ◌∙◌}
 use mathlib.Core.List.{List}
 use Prim.Native.Nat.{◌-◌}
 use Rattle.record.specs.Layout.{Record}
-use Rattle.account.specs.Answers.{number_of}
+use Rattle.account.specs.Answers.{answer_of, number_of}
 use Rattle.account.specs.Records.{cut}
-use Rattle.account.proofs.AcceptedOnly.{accepted_only}
+use Rattle.account.proofs.AcceptedOnly.{refused_some}
 use Rattle.tickets.specs.Asked.{tickets_in, margin_total}
 use Rattle.tickets.specs.Ticket.{with_tickets}
 use Rattle.tickets.proofs.AskLaws.{kept_cut, but_last, nothing_left, some_left, withdraw_no_ticket, withdraw_none, withdraw_answered}
 use Rattle.tickets.proofs.CountLaws.{file_ok}
 use Rattle.tickets.proofs.ask.withdraw_kept.Goals as goal
 
-pub returns-then-number_of-ne0 : goal.returns-then-number_of-ne0
-returns-then-number_of-ne0 c =
+pub returns-in-Err : goal.returns-in-Err
+returns-in-Err c =
     let file = c.args.file.now in
-    let bytes = c.args.tickets.now in
-    let ts = tickets_in bytes in
     let ok = file_ok file c.args.kept.counts.account c.requires.counts.from_check in
-    let h = c.put_in-holding in
+    let t = c.in-Err.told in
     c.refused.ensures
-    ∙ withdraw_no_ticket file ts ok h.result.ticket h.result.answer h.ensures.told
-    (λ z. c.if-number_of-ne0.true (c.number_of.ensures ∙ z))
+    ∙ withdraw_no_ticket file (tickets_in c.args.tickets.now) ok t.ticket t.answer c.in-Err.ensures.told c.in-Err.ensures.some
 
-pub withdraw-left-requires : goal.withdraw-left-requires
-withdraw-left-requires c =
+pub withdraw-requires : goal.withdraw-requires
+withdraw-requires c = kept_cut c.args.file.now c.args.tickets.now c.in-Ok.held.kept c.in-Ok.ensures.kept
+
+pub returns-in-Err-withdraw : goal.returns-in-Err-withdraw
+returns-in-Err-withdraw c =
     let file = c.args.file.now in
     let bytes = c.args.tickets.now in
-    let ts = tickets_in bytes in
     let ok = file_ok file c.args.kept.counts.account c.requires.counts.from_check in
-    let h = c.put_in-holding in
-    let z : number_of c.put_in-holding.result.answer ≡ 0 = sym c.number_of.ensures ∙ c.if-number_of-ne0.false in
-    let kb = c.put_in-holding.ensures.kept z in
-    kept_cut file bytes h.result.kept kb
-
-pub returns-then-number_of-ne0-2 : goal.returns-then-number_of-ne0-2
-returns-then-number_of-ne0-2 c =
-    let file = c.args.file.now in
-    let bytes = c.args.tickets.now in
-    let ts = tickets_in bytes in
-    let ok = file_ok file c.args.kept.counts.account c.requires.counts.from_check in
-    let h = c.put_in-holding in
-    let z : number_of c.put_in-holding.result.answer ≡ 0 = sym
-    c.number_of.ensures ∙ c.if-number_of-ne0.false in
-    let kb = c.put_in-holding.ensures.kept z in
-    let w = c.withdraw-left in
-    let none = nothing_left file bytes h.result.kept kb w.result.answer w.ensures.told
-    (λ y. c.if-number_of-ne0-2.true (c.number_of-2.ensures ∙ y)) in
-    c.refused-then-number_of-ne0-2.ensures
-    ∙ withdraw_none file ts ok h.result.ticket h.result.answer h.ensures.told z w.result.answer (h.ensures.many z ∙ none.0) none.1
+    let h = c.in-Ok.ensures in
+    let r = c.in-Err-withdraw.refusal in
+    let told = sym (ap answer_of c.in-Err-withdraw.is) ∙ c.withdraw.ensures.told in
+    let none = nothing_left file bytes c.in-Ok.held.kept h.kept (Err r) told (refused_some refl) in
+    c.refused-in-Err-withdraw.ensures
+    ∙ withdraw_none file (tickets_in bytes) ok c.in-Ok.held.count (Ok tt) h.told refl (Err r) (h.many ∙ none.0) none.1
 
 pub kept_total-requires : goal.kept_total-requires
-kept_total-requires c =
-    let z : number_of c.put_in-holding.result.answer ≡ 0 = sym
-    c.number_of.ensures ∙ c.if-number_of-ne0.false in
-    record { tickets = tickets_in c.args.tickets.now; kept = c.put_in-holding.ensures.kept z }
+kept_total-requires c = record { tickets = tickets_in c.args.tickets.now; kept = c.in-Ok.ensures.kept }
 
-pub kept_total-requires-2 : goal.kept_total-requires-2
-kept_total-requires-2 c =
+pub kept_total-requires-in-Ok-withdraw : goal.kept_total-requires-in-Ok-withdraw
+kept_total-requires-in-Ok-withdraw c =
+    let bytes = c.args.tickets.now in
+    let less = c.in-Ok-withdraw.ensures in
+    record { tickets = cut (c.in-Ok.held.kept.counts.tickets - 1) bytes; kept = less.accepted }
+
+pub returns-in-Ok-withdraw : goal.returns-in-Ok-withdraw
+returns-in-Ok-withdraw c =
     let file = c.args.file.now in
     let bytes = c.args.tickets.now in
     let ts = tickets_in bytes in
     let ok = file_ok file c.args.kept.counts.account c.requires.counts.from_check in
-    let h = c.put_in-holding in
-    let z : number_of c.put_in-holding.result.answer ≡ 0 = sym
-    c.number_of.ensures ∙ c.if-number_of-ne0.false in
-    let kb = c.put_in-holding.ensures.kept z in
-    let y : number_of c.withdraw-left.result.answer ≡ 0 = sym c.number_of-2.ensures
-    ∙ c.if-number_of-ne0-2.false in
-    record { tickets = cut (h.result.kept.counts.tickets - 1) bytes; kept = c.withdraw-left.ensures.accepted y }
-
-pub returns : goal.returns
-returns c =
-    let file = c.args.file.now in
-    let bytes = c.args.tickets.now in
-    let ts = tickets_in bytes in
-    let ok = file_ok file c.args.kept.counts.account c.requires.counts.from_check in
-    let h = c.put_in-holding in
-    let z : number_of c.put_in-holding.result.answer ≡ 0 = sym
-    c.number_of.ensures
-    ∙ c.if-number_of-ne0.false in
-    let kb = c.put_in-holding.ensures.kept z in
-    let w = c.withdraw-left in
-    let y : number_of w.result.answer ≡ 0 = sym c.number_of-2.ensures ∙ c.if-number_of-ne0-2.false in
-    let m = h.result.kept.counts.tickets in
-    withdraw_answered file ts ok h.result.ticket h.result.answer h.ensures.told z
-    (λ e. some_left m (sym (ap number_of w.ensures.told) ∙ y) (kb.counts.many ∙ sym (h.ensures.many z) ∙ e))
-    (record { ticket = h.result.ticket; answer = w.result.answer; before = c.kept_total.result; after = c.kept_total-2.result })
-    refl (accepted_only w.result.answer y) (c.kept_total.ensures ts kb)
-    (c.kept_total-2.ensures (cut (m - 1) bytes) (w.ensures.accepted y)
-    ∙ ap (λ (rs : List Record). margin_total (with_tickets file rs)) (but_last file bytes h.result.kept kb))
+    let held = c.in-Ok.held in
+    let h = c.in-Ok.ensures in
+    let less = c.in-Ok-withdraw.ensures in
+    let m = held.kept.counts.tickets in
+    withdraw_answered file ts ok held.count (Ok tt) h.told refl
+    (λ e. some_left m (sym (ap number_of less.told)) (h.kept.counts.many ∙ sym h.many ∙ e))
+    (record { ticket = held.count; answer = Ok tt; before = c.kept_total.result; after = c.kept_total-in-Ok-withdraw.result })
+    refl refl (c.kept_total.ensures ts h.kept)
+    (c.kept_total-in-Ok-withdraw.ensures (cut (m - 1) bytes) less.accepted
+    ∙ ap (λ (rs : List Record). margin_total (with_tickets file rs)) (but_last file bytes held.kept h.kept))

@@ -27,15 +27,11 @@ latest file bytes k n t e nz r kb =
 
 pub returns-then-count-eq0 : goal.returns-then-count-eq0
 returns-then-count-eq0 c =
-    record {
-      told = sym (ap withdrawal (sym c.tickets_of-count.ensures ∙ c.if-count-eq0.true));
-      refused = λ n. refl;
-      accepted = λ z. absurd (omega (arith, z));
-    }
+    record { told = sym (ap withdrawal (sym c.tickets_of-count.ensures ∙ c.if-count-eq0.true)); accepted = tt }
 
-pub without_row-positions-requires : goal.without_row-positions-requires
-without_row-positions-requires c = (
-  c.nothing_of-none.ensures,
+pub without_row-requires : goal.without_row-requires
+without_row-requires c = (
+  c.nothing_of.ensures,
   record {
     tickets = cut (c.tickets_of-count.result - 1) c.args.tickets.now;
     kept = latest c.args.file.now c.args.tickets.now c.args.kept c.tickets_of-count.result
@@ -72,15 +68,14 @@ returns c =
     (c.tickets_of-count.ensures ∙ z) in
     record {
       told = sym (ap (λ (b : Bool). cond b (Err NoTicketLeft) (Ok tt)) (ne_eqb c.args.kept.counts.tickets 0 nz));
-      refused = λ m. absurd (m refl);
-      accepted = λ z.
+      accepted =
           subst (λ (i : ℕ). KeptBy file (cut (i - 1) c.args.tickets.now)
-          (record { counts = c.one_less.result; positions = c.without_row-positions.result }))
+          (record { counts = c.one_less.result; positions = c.without_row.result }))
           c.tickets_of-count.ensures
           (record {
             counts =
                 counts_less file ts t c.args.kept.counts kb.counts c.one_less.result
                 (subst (λ (i : ℕ). OneLess i c.args.kept.counts c.one_less.result) c.contract.ensures.0 c.one_less.ensures);
-            positions = c.without_row-positions.ensures ts kb;
+            positions = c.without_row.ensures ts kb;
           });
     }

@@ -76,6 +76,11 @@ abbrev pub answer_of : {A : Type 0} → Result A Refusal → Answer
 answer_of (Ok a) = Ok tt
 answer_of (Err r) = Err r
 
+-- what comes next, where nothing is refused
+abbrev pub and_then : {A : Type 0} → Answer → Result A Refusal → Result A Refusal
+and_then (Ok u) next = next
+and_then (Err r) next = Err r
+
 -- the refusal of a record, by its number
 abbrev pub refusal : ℕ → ℕ → Answer
 refusal number k =

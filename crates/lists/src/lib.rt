@@ -6,23 +6,23 @@ ghost use Rattle.std.specs.Prelude.{◌≡◌};
 ghost use Rattle.lists.specs.Lists.{judged_to, joined_judged};
 
 use account::accounts::{check_file, nothing_of};
-use account::answers::number_of;
+use account::answers::Refusal;
 use account::noon::{JOINED, check_pair};
 use margin::lists::{Judged, judge_over};
 
 // What is said of a list of spreads that is sent for a question, 0 to 15 for that contract or 16 for the intercontract table. The
 // list has a number for each step, of each spread its first step and then its second, in `numbers`; what each step used of each
 // prompt, or of each contract, one step after the other, in `uses`; and it speaks of `sent` prompts. Nothing is written.
-#[tactic(auto, using(crate::proofs::ListLaws::list_refused))]
-pub fn judge(file: &[u8], question: usize, sent: usize, numbers: &[i64], uses: &[i64]) -> Judged
+pub fn judge(
+    file: &[u8],
+    question: usize,
+    sent: usize,
+    numbers: &[i64],
+    uses: &[i64],
+) -> Result<Judged, Refusal>
     ensures { result ≡ judged_to file.now question sent numbers.now uses.now }
 {
-    let checked = check_file(file);
-    let answer = checked.answer;
-    if number_of(answer) != 0 {
-        return Judged::Refused(answer);
-    }
-    let account = checked.account;
+    let account = check_file(file)?;
     judge_over(
         file,
         nothing_of(file),
@@ -38,7 +38,7 @@ pub fn judge(file: &[u8], question: usize, sent: usize, numbers: &[i64], uses: &
 #[derive(Clone, Copy)]
 pub struct JudgedPair {
     pub file: usize,
-    pub judged: Judged,
+    pub judged: Result<Judged, Refusal>,
 }
 
 // The same of the joined account of a pair of files.
@@ -53,18 +53,22 @@ pub fn judge_joined<'a>(
     ensures { result ≡ joined_judged morning.now noon.now question sent numbers.now uses.now }
 {
     let checked = check_pair(morning, noon);
-    let verdict = checked.verdict;
-    let refusal = verdict.answer;
-    if number_of(refusal) != 0 {
-        return JudgedPair {
-            file: verdict.file,
-            judged: Judged::Refused(refusal),
-        };
-    }
-    let account = checked.account;
-    let judged = judge_over(morning, noon, account, question, sent, numbers, uses);
-    JudgedPair {
-        file: JOINED,
-        judged,
+    match checked.verdict.answer {
+        Ok(()) => JudgedPair {
+            file: JOINED,
+            judged: judge_over(
+                morning,
+                noon,
+                checked.account,
+                question,
+                sent,
+                numbers,
+                uses,
+            ),
+        },
+        Err(refusal) => JudgedPair {
+            file: checked.verdict.file,
+            judged: Err(refusal),
+        },
     }
 }

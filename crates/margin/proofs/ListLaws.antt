@@ -1,6 +1,6 @@
 -- A list of spreads for a question: the steps that judge it are the question's own.
 -- Assumes nothing.
-use Rattle.std.specs.Prelude.{Err}
+use Rattle.std.specs.Prelude.{Result, Err}
 use Prim.Native.Nat.{ℕ}
 use mathlib.Core.Bool.{Bool, true, false, cond}
 use mathlib.Core.List.{List}
@@ -15,7 +15,7 @@ use Rattle.spread.specs.Accepted as given
 use Rattle.spread.specs.Accepted.{open_of}
 use Rattle.spread.specs.Steps.{Open, Taker}
 use Rattle.margin.specs.declared.lists.Judged.{Judged}
-use Rattle.margin.specs.declared.lists.Judged.TheVariants.{Refused}
+use Rattle.account.specs.declared.answers.Refusal.{Refusal}
 use Rattle.margin.specs.declared.uses.Asking.{Asking}
 use Rattle.margin.specs.Books.{answered}
 use Rattle.margin.specs.Lists.{said_of, judged_over}
@@ -23,10 +23,10 @@ use Rattle.margin.specs.Uses.{steps_for, opens_for}
 use Rattle.margin.specs.code.Asking.{Asks}
 
 module _ (account : List Record) (question sent : ℕ) (xs us : List ℤ) where
-  abbrev of : Bool → Judged
-  of b = cond b (said_of (judged_list (steps_for account question) (opens_for account question) sent xs us)) (Refused (Err (NoSuchQuestion (length account))))
+  abbrev of : Bool → Result Judged Refusal
+  of b = cond b (said_of (judged_list (steps_for account question) (opens_for account question) sent xs us)) (Err (NoSuchQuestion (length account)))
 
-  pub list_not-asked : answered account question ≡ false → Refused (Err (NoSuchQuestion (length account))) ≡ judged_over account question sent xs us
+  pub list_not-asked : answered account question ≡ false → Err (NoSuchQuestion (length account)) ≡ judged_over account question sent xs us
   list_not-asked e = sym (ap of e)
 
   pub list_asked : answered account question ≡ true → (a : Asking) → Asks (steps_for account question) (opens_for account question) a

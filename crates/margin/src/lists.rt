@@ -11,10 +11,9 @@ use account::answers::Refusal;
 use account::lent::{NOTES, lend, record_total};
 use judging::{Verdict, judge};
 
-// What comes back for a list: a refusal, or what is said of it. A step is named by its place, from 0.
+// What is said of a list. A step is named by its place, from 0.
 #[derive(Clone, Copy)]
 pub enum Judged {
-    Refused(Result<(), Refusal>),
     Right,
     MoreThanFormed(usize),
     LessThanFormed(usize),
@@ -22,15 +21,15 @@ pub enum Judged {
 }
 
 // A list of other counts is refused with 18.
-fn said_of(verdict: Verdict) -> Judged
+fn said_of(verdict: Verdict) -> Result<Judged, Refusal>
     ensures { result ≡ said_of verdict }
 {
     match verdict {
-        Verdict::Right => Judged::Right,
-        Verdict::MoreThanFormed(step) => Judged::MoreThanFormed(step),
-        Verdict::LessThanFormed(step) => Judged::LessThanFormed(step),
-        Verdict::WrongUse(step) => Judged::WrongUse(step),
-        Verdict::OtherCounts => Judged::Refused(Err(Refusal::OtherCounts)),
+        Verdict::Right => Ok(Judged::Right),
+        Verdict::MoreThanFormed(step) => Ok(Judged::MoreThanFormed(step)),
+        Verdict::LessThanFormed(step) => Ok(Judged::LessThanFormed(step)),
+        Verdict::WrongUse(step) => Ok(Judged::WrongUse(step)),
+        Verdict::OtherCounts => Err(Refusal::OtherCounts),
     }
 }
 
@@ -44,17 +43,15 @@ fn judge_lent<'a>(
     sent: usize,
     numbers: &[i64],
     uses: &[i64],
-) -> Judged
+) -> Result<Judged, Refusal>
     requires { Stands morning.now noon.now (account_in account.now) }
     ensures { result ≡ judged_over (account_of morning.now noon.now) question sent numbers.now uses.now }
 {
     if !is_asked(account, question) {
-        return Judged::Refused(Err(Refusal::NoSuchQuestion(record_total(account))));
+        return Err(Refusal::NoSuchQuestion(record_total(account)));
     }
     let asking = asking_over(morning, noon, account, question);
-    let prompts = asking.prompts;
-    let table = asking.table;
-    said_of(judge(prompts, table, sent, numbers, uses))
+    said_of(judge(asking.prompts, asking.table, sent, numbers, uses))
 }
 
 // The same of an account by value, which is lent.
@@ -66,7 +63,7 @@ pub fn judge_over<'a>(
     sent: usize,
     numbers: &[i64],
     uses: &[i64],
-) -> Judged
+) -> Result<Judged, Refusal>
     requires { Stands morning.now noon.now account }
     ensures { result ≡ judged_over (account_of morning.now noon.now) question sent numbers.now uses.now }
 {

@@ -14,7 +14,7 @@ ghost use Rattle.tickets.specs.code.Counts.{CountsOf, CountedIn, SmallCounts, ro
 ghost use Rattle.tickets.specs.Ticket.{place, with_tickets, ticket_checked};
 
 use account::accounts::{Account, contract_total, part, part_total, record_total};
-use account::answers::{Refusal, number_of, refusal_of};
+use account::answers::{Refusal, refusal_of};
 use account::check::MOST_RECORDS;
 use account::conversions::row_answer;
 use account::limits::MOST_ROWS;
@@ -162,10 +162,7 @@ pub fn check_ticket<'a>(file: &'a [u8], none: &'a [u8], counts: Counts, ticket: 
         return refusal_of(number, k);
     }
     let rates = part(file, none, account, RATES);
-    let answer = row_answer(rates_of(rates), ticket, k);
-    if number_of(answer) != 0 {
-        return answer;
-    }
+    row_answer(rates_of(rates), ticket, k)?;
     if MOST_RECORDS <= record_total(account) + counts.tickets {
         return Err(Refusal::TooLong);
     }

@@ -8,7 +8,6 @@ use Rattle.account.specs.Joined.{account_of}
 use Rattle.account.specs.declared.answers.Refusal.TheVariants.{NoSuchQuestion}
 use Rattle.margin.specs.Books.{answered}
 use Rattle.margin.specs.Lists.{said_of}
-use Rattle.margin.specs.declared.lists.Judged.TheVariants.{Refused}
 use Rattle.margin.proofs.AskedLaws.{asked_is}
 use Rattle.margin.proofs.ListLaws.{list_not-asked, list_asked}
 use Rattle.margin.proofs.lists.judge_lent.Goals as goal
@@ -26,7 +25,7 @@ asked c =
 pub returns-then-not-is_asked : goal.returns-then-not-is_asked
 returns-then-not-is_asked c =
     let a = c.args in
-    ap (λ (n : ℕ). Refused (Err (NoSuchQuestion n))) (c.record_total.ensures ∙ c.requires.places.all)
+    ap (λ (n : ℕ). Err (NoSuchQuestion n)) (c.record_total.ensures ∙ c.requires.places.all)
     ∙ list_not-asked (account_of a.morning.now a.noon.now) a.question a.sent a.numbers.now a.uses.now
     (asked (goal.at.returns-then-not-is_asked c).After-is_asked ∙ c.if-not-is_asked.true)
 

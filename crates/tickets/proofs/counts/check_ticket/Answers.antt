@@ -1,5 +1,6 @@
 -- The refusals in their order, each as the counts tell it.
 -- Assumes nothing.
+use Rattle.std.proofs.lemmas.Result.{err_from_is_err_and}
 use mathlib.Core.Path.{◌≡◌, sym, ap, ◌∙◌, subst}
 use mathlib.Core.List.{List}
 use Prim.Native.Nat.{ℕ, ◌+◌}
@@ -7,6 +8,8 @@ use native.Mathlib.Omega.{arith}
 use lib.ListN.{take}
 use Rattle.exact.specs.Lists.{sum}
 use Rattle.record.specs.Layout.{Record, contract}
+use Rattle.account.specs.Answers.{number_of}
+use Rattle.account.proofs.AcceptedOnly.{refused_some}
 use Rattle.account.specs.Parts.{rates_of}
 use Rattle.account.specs.code.Rates.{RatesOf}
 use Rattle.account.specs.Records.{records}
@@ -71,8 +74,8 @@ part-rates-requires c =
     let p = c.requires.1 in
     stands_in c.args.file.now c.args.counts.account p.counts.from_check c.args.none.now c.requires.0
 
-pub row_answer-answer-requires : goal.row_answer-answer-requires
-row_answer-answer-requires c =
+pub row_answer-requires : goal.row_answer-requires
+row_answer-requires c =
     let a = c.args in
     let t = a.ticket.now in
     let x = c.requires.1 in
@@ -99,12 +102,13 @@ row_answer-answer-requires c =
       },
     )
 
-pub returns-then-number_of-ne0 : goal.returns-then-number_of-ne0
-returns-then-number_of-ne0 c =
+pub returns-in_err-row_answer : goal.returns-in_err-row_answer
+returns-in_err-row_answer c =
     let a = c.args in
     let t = a.ticket.now in
+    let p = err_from_is_err_and c.from_residual.result c.from_residual.ensures.1 in
     λ ts co.
-    tell_rate a.file.now ts a.counts co t a.none.now c.requires.0
+    rw (p.1, p.2) (sym c.in_err-row_answer.was ∙ tell_rate a.file.now ts a.counts co t a.none.now c.requires.0
     c.if-ticket-ne-RECORD_BYTES.false
     (sym c.kind.ensures.0 ∙ c.if-kind-ne3.false)
     c.row_fault-number.result
@@ -120,13 +124,13 @@ returns-then-number_of-ne0 c =
     c.contract-c.result
     c.contract-c.ensures.0
     c.place_of-k.ensures)
-    c.row_answer-answer.result
+    c.row_answer.result
     (told_by a.file.now ts a.counts co t a.none.now c.requires.0 c.part-rates.result.now
     c.part-rates.ensures c.rates_of.result
     c.rates_of.ensures
     c.place_of-k.result
-    c.row_answer-answer.result c.row_answer-answer.ensures)
-    (λ z. c.if-number_of-ne0.true (c.number_of.ensures ∙ z))
+    c.row_answer.result c.row_answer.ensures)
+    (refused_some (sym c.in_err-row_answer.was)))
 
 pub overflow_add-record_total : goal.overflow_add-record_total
 overflow_add-record_total c =
@@ -150,13 +154,13 @@ returns-then-record_total-counts-ge-MOST_RECORDS c =
     c.number_at.ensures
     c.contract-c.ensures.0)
     c.if-number-ne0.false
-    c.place_of-k.result c.row_answer-answer.result
+    c.place_of-k.result c.row_answer.result
     (told_by a.file.now ts a.counts co t a.none.now c.requires.0
     c.part-rates.result.now
     c.part-rates.ensures
     c.rates_of.result c.rates_of.ensures
-    c.place_of-k.result c.row_answer-answer.result c.row_answer-answer.ensures)
-    (sym c.number_of.ensures ∙ c.if-number_of-ne0.false)
+    c.place_of-k.result c.row_answer.result c.row_answer.ensures)
+    (ap number_of c.in_ok-row_answer.was)
     (omega (arith, c.if-record_total-counts-ge-MOST_RECORDS.true, c.record_total.ensures))
 
 pub returns : goal.returns
@@ -176,11 +180,11 @@ returns c =
     c.number_at.ensures
     c.contract-c.ensures.0)
     c.if-number-ne0.false
-    c.place_of-k.result c.row_answer-answer.result
+    c.place_of-k.result c.row_answer.result
     (told_by a.file.now ts a.counts co t a.none.now c.requires.0
     c.part-rates.result.now
     c.part-rates.ensures
     c.rates_of.result c.rates_of.ensures
-    c.place_of-k.result c.row_answer-answer.result c.row_answer-answer.ensures)
-    (sym c.number_of.ensures ∙ c.if-number_of-ne0.false)
+    c.place_of-k.result c.row_answer.result c.row_answer.ensures)
+    (ap number_of c.in_ok-row_answer.was)
     (omega (arith, c.if-record_total-counts-ge-MOST_RECORDS.false, c.record_total.ensures))

@@ -4,8 +4,7 @@ use Rattle.std.specs.Prelude.{Ok, Err}
 use Prim.Native.Nat.{ℕ, suc}
 use native.Mathlib.Omega.{arith}
 use mathlib.Core.Path.{◌≡◌, refl, ◌∙◌}
-use Rattle.account.specs.Answers.{number_of}
-use Rattle.account.specs.Answers.{Answer}
+use Rattle.account.specs.Answers.{Answer, and_then, number_of}
 use Rattle.account.specs.declared.answers.Refusal.{Refusal}
 use Rattle.account.specs.declared.answers.Refusal.TheVariants.{TooLong, CutRecord, UnknownKind, KindFalls, UnusedByte, FieldOutside, Unlisted}
 use Rattle.account.specs.declared.answers.Refusal.TheVariants.{OutOfOrder, OverLimit, TooFewNumbers, NoSuchQuestion, NoonSpread, TooManyJoined, NoRate}
@@ -44,3 +43,16 @@ accepted_only (Err NoTicketLeft) e = absurd (some e)
 -- and to no refusal
 pub refused_some : {a : Answer} {r : Refusal} → Err r ≡ a → number_of a ≡ 0 → ⊥
 refused_some {a} e z = let f = e ∙ accepted_only a z in cc
+
+-- what comes next does not come where something is refused
+pub still_refused : {A B : Type 0} (a : Answer) (x : A) (y : B) {r : Refusal} → and_then a (Ok x) ≡ Err r → and_then a (Ok y) ≡ Err r
+still_refused (Ok u) x y e = cc
+still_refused (Err s) x y e = cc
+
+pub given_refused : {A : Type 0} (a : Answer) (x : A) {r : Refusal} → and_then a (Ok x) ≡ Err r → a ≡ Err r
+given_refused (Ok u) x e = absurd cc
+given_refused (Err s) x e = cc
+
+pub then_given : {A : Type 0} (a : Answer) {x z : A} → and_then a (Ok x) ≡ Ok z → (a ≡ Ok tt) × (z ≡ x)
+then_given (Ok u) e = (refl, cc)
+then_given (Err s) e = absurd cc

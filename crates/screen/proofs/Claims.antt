@@ -14,7 +14,7 @@ use lib.ListN.{length, length-append, length-drop, take, drop}
 use lib.Seq.{length-take-le, take_at, drop_at}
 use lib.Signed.{lt_z}
 use Rattle.record.specs.Layout.{Record, record_bytes}
-use Rattle.account.specs.Answers.{number_of, record_of}
+use Rattle.account.specs.Answers.{number_of, record_of, and_then}
 use Rattle.account.specs.Checked.{checked}
 use Rattle.account.specs.Records.{records}
 use Rattle.account.specs.Answers.{Answer}
@@ -26,8 +26,7 @@ use Rattle.tickets.specs.Ticket.{place, with_ticket, ticket_checked}
 use Rattle.screen.specs.Claims.{AnswerSays, LoadExactly, OrderExactly, AddExactly, LimitExactly, AfterAdding, Adding, Agree, Claims}
 use Rattle.screen.specs.Screen.{held, load_answer, order_answer, no_room, add_answer, after_add, amount_of, total_held, total_with, limit_answer, weighed, limited}
 use Rattle.screen.specs.Screen.{limit_number, limit_total}
-use Rattle.screen.specs.declared.Limited.TheVariants.{Refused, Within, Over}
-use Rattle.screen.specs.declared.Told.TheVariants.{Refused as NoTotal, Total}
+use Rattle.screen.specs.declared.Limited.TheVariants.{Within, Over}
 use Rattle.screen.proofs.ScreenLaws.{both, lacking, all_lent, order_lacking, limit_below, limit_stands, put_long, not-added, when_added, add_refused}
 use Rattle.screen.proofs.ScreenLaws.{add_no_room, add_room}
 use Rattle.screen.proofs.TicketLaws.{check_low, ticket_low, ticket_long, accepted_with, stands_within}
@@ -127,7 +126,7 @@ module _ (lent : List ℕ) (named : ℕ) where
     has_room : room ≡ Ok tt → named + record_bytes ≤ length lent
     has_room = go (no_room lent named) refl
       where
-        go : (t : Bool) → no_room lent named ≡ t → cond t (Err TooFewBytes) (Ok tt) ≡ Ok tt → named + record_bytes ≤ length lent
+        go : (t : Bool) → no_room lent named ≡ t → cond {A = Answer} t (Err TooFewBytes) (Ok tt) ≡ Ok tt → named + record_bytes ≤ length lent
         go true h e = absurd (let n = ap number_of e in omega (arith, n))
         go false h e = ltb-false (length lent) (named + record_bytes) h
 
@@ -227,8 +226,8 @@ module _ (lent : List ℕ) (named : ℕ) where
         holds = holds;
         loads = loads;
         total =
-            ap (λ (a : Answer). cond (not_refused a) (Total (amount_of (total_held after (named + record_bytes)))) (NoTotal a)) loads
-            ∙ ap (λ (xs : List ℕ). Total (amount_of (account_total (records xs)))) holds;
+            ap (λ (a : Answer). and_then a (Ok (amount_of (total_held after (named + record_bytes))))) loads
+            ∙ ap (λ (xs : List ℕ). Ok (amount_of (account_total (records xs)))) holds;
         beyond = ap (drop (named + record_bytes)) after_is ∙ drop_at with_it (drop (named + record_bytes) lent) (named + record_bytes) with_long;
         as_long = as_long;
       }
@@ -236,8 +235,13 @@ module _ (lent : List ℕ) (named : ℕ) where
     adding : Adding lent named ticket
     adding = record {
       added = after_adding;
-      refused = λ no. sym (not-added lent named ticket (add_answer lent named ticket) refl (λ z. no (accepted_only (add_answer lent named ticket) z))).after;
+      refused = unchanged (add_answer lent named ticket) refl;
     }
+
+      where
+        unchanged : (a : Answer) → add_answer lent named ticket ≡ a → (add_answer lent named ticket ≡ Ok tt → ⊥) → after_add lent named ticket ≡ lent
+        unchanged (Ok u) e d = absurd (d e)
+        unchanged (Err r) e d = sym (not-added lent named ticket r e).after
 
     -- ---- "ask whether the total with a ticket stays at or below the client's limit"
 
@@ -256,29 +260,29 @@ module _ (lent : List ℕ) (named : ℕ) where
       total = total_with lent named ticket
 
       -- a yes and a no, apart
-      said : (t : Bool) → not_refused asked ≡ t → (u : Bool) → leb total (nat_abs limit) ≡ u
-          → limited lent named ticket limit ≡ cond t (cond u (Within (amount_of total)) (Over (amount_of total))) (Refused asked)
-      said t h u g =
-          ap (λ (t : Bool). cond t (weighed (nat_abs limit) total) (Refused asked)) h
-          ∙ ap (λ (u : Bool). cond t (cond u (Within (amount_of total)) (Over (amount_of total))) (Refused asked)) g
+      said : (a : Answer) → asked ≡ a → (u : Bool) → leb total (nat_abs limit) ≡ u
+          → limited lent named ticket limit ≡ and_then a (Ok (cond u (Within (amount_of total)) (Over (amount_of total))))
+      said a h u g =
+          ap (λ (a : Answer). and_then a (Ok (weighed (nat_abs limit) total))) h
+          ∙ ap (λ (u : Bool). and_then a (Ok (cond u (Within (amount_of total)) (Over (amount_of total))))) g
 
-      yes_of : (n : ℕ) (t : Bool) → not_refused asked ≡ t → (u : Bool) → leb total (nat_abs limit) ≡ u → limited lent named ticket limit ≡ Within (amount_of n)
+      yes_of : (n : ℕ) (a : Answer) → asked ≡ a → (u : Bool) → leb total (nat_abs limit) ≡ u → limited lent named ticket limit ≡ Ok (Within (amount_of n))
           → (asked ≡ Ok tt) × ((total ≡ n) × (n ≤ nat_abs limit))
-      yes_of n true h true g e =
-          let same : total ≡ n = ap limit_total (sym (said true h true g) ∙ e) in
+      yes_of n (Ok w) h true g e =
+          let same : total ≡ n = ap limit_total (sym (said (Ok w) h true g) ∙ e) in
           let le = leb-true total (nat_abs limit) g in
-          (accepted_only asked (eqb-true (number_of asked) 0 h), (same, omega (arith, same, le)))
-      yes_of n true h false g e = absurd (let v : 2 ≡ 1 = ap limit_number (sym (said true h false g) ∙ e) in omega (arith, v))
-      yes_of n false h u g e = absurd (let v : 0 ≡ 1 = ap limit_number (sym (said false h u g) ∙ e) in omega (arith, v))
+          (h, (same, omega (arith, same, le)))
+      yes_of n (Ok w) h false g e = absurd (let v : 2 ≡ 1 = ap limit_number (sym (said (Ok w) h false g) ∙ e) in omega (arith, v))
+      yes_of n (Err r) h u g e = absurd (let v : 0 ≡ 1 = ap limit_number (sym (said (Err r) h u g) ∙ e) in omega (arith, v))
 
-      no_of : (n : ℕ) (t : Bool) → not_refused asked ≡ t → (u : Bool) → leb total (nat_abs limit) ≡ u → limited lent named ticket limit ≡ Over (amount_of n)
+      no_of : (n : ℕ) (a : Answer) → asked ≡ a → (u : Bool) → leb total (nat_abs limit) ≡ u → limited lent named ticket limit ≡ Ok (Over (amount_of n))
           → (asked ≡ Ok tt) × ((total ≡ n) × (nat_abs limit < n))
-      no_of n true h false g e =
-          let same : total ≡ n = ap limit_total (sym (said true h false g) ∙ e) in
+      no_of n (Ok w) h false g e =
+          let same : total ≡ n = ap limit_total (sym (said (Ok w) h false g) ∙ e) in
           let lt = leb-false total (nat_abs limit) g in
-          (accepted_only asked (eqb-true (number_of asked) 0 h), (same, omega (arith, same, lt)))
-      no_of n true h true g e = absurd (let v : 1 ≡ 2 = ap limit_number (sym (said true h true g) ∙ e) in omega (arith, v))
-      no_of n false h u g e = absurd (let v : 0 ≡ 2 = ap limit_number (sym (said false h u g) ∙ e) in omega (arith, v))
+          (h, (same, omega (arith, same, lt)))
+      no_of n (Ok w) h true g e = absurd (let v : 1 ≡ 2 = ap limit_number (sym (said (Ok w) h true g) ∙ e) in omega (arith, v))
+      no_of n (Err r) h u g e = absurd (let v : 0 ≡ 2 = ap limit_number (sym (said (Err r) h u g) ∙ e) in omega (arith, v))
 
       limit_exactly : LimitExactly lent named ticket limit
       limit_exactly = record {
@@ -288,16 +292,16 @@ module _ (lent : List ℕ) (named : ℕ) where
           back = λ h. subst⁻¹ (λ (x : Answer). AnswerSays x n k) (limit_stands lent named ticket limit h.0) h.1;
         };
         yes = λ n. record {
-          forth = yes_of n (not_refused asked) refl (leb total (nat_abs limit)) refl;
+          forth = yes_of n asked refl (leb total (nat_abs limit)) refl;
           back = λ h.
-              said true (ap not_refused h.0) true (le-leb total (nat_abs limit) (let a = h.1.0 in let b = h.1.1 in omega (arith, a, b)))
-              ∙ ap (λ (n : ℕ). Within (amount_of n)) h.1.0;
+              said (Ok tt) h.0 true (le-leb total (nat_abs limit) (let a = h.1.0 in let b = h.1.1 in omega (arith, a, b)))
+              ∙ ap (λ (n : ℕ). Ok (Within (amount_of n))) h.1.0;
         };
         no = λ n. record {
-          forth = no_of n (not_refused asked) refl (leb total (nat_abs limit)) refl;
+          forth = no_of n asked refl (leb total (nat_abs limit)) refl;
           back = λ h.
-              said true (ap not_refused h.0) false (lt-leb total (nat_abs limit) (let a = h.1.0 in let b = h.1.1 in omega (arith, a, b)))
-              ∙ ap (λ (n : ℕ). Over (amount_of n)) h.1.0;
+              said (Ok tt) h.0 false (lt-leb total (nat_abs limit) (let a = h.1.0 in let b = h.1.1 in omega (arith, a, b)))
+              ∙ ap (λ (n : ℕ). Ok (Over (amount_of n))) h.1.0;
         };
       }
         where

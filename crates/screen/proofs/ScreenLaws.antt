@@ -1,6 +1,6 @@
 -- What each call answers, case by case: of bytes that are lent, the same as of the held file alone.
 -- Assumes nothing.
-use Rattle.std.specs.Prelude.{Ok, Err}
+use Rattle.std.specs.Prelude.{Result, Ok, Err}
 use Prim.Native.Nat.{ℕ, zero, suc, ◌+◌, ◌-◌, ◌≤◌, ◌<◌}
 use native.Mathlib.Nat.{le_of_suc-le-suc, not-suc-le-zero}
 use native.Mathlib.Omega.{arith}
@@ -13,14 +13,16 @@ use lib.ListN.{length, length-append, length-drop, take, drop}
 use lib.Seq.{length-take-le, take-nil, take-take}
 use lib.Signed.{lt_z}
 use Rattle.record.specs.Layout.{Record, record_bytes}
-use Rattle.account.specs.Answers.{number_of}
+use Rattle.account.specs.Answers.{number_of, and_then, refusal_number}
 use Rattle.account.specs.Checked.{checked}
 use Rattle.account.specs.Records.{records}
 use Rattle.account.specs.code.Standing.{Stands, CheckedBy}
 use Rattle.account.specs.Joined.{account_of}
-use Rattle.account.specs.declared.accounts.Checked.{Checked}
+use Rattle.account.specs.declared.accounts.Account.{Account}
+use Rattle.account.specs.declared.answers.Refusal.{Refusal}
 use Rattle.account.specs.Answers.{Answer}
 use Rattle.account.specs.declared.answers.Refusal.TheVariants.{TooFewBytes, LimitBelowZero}
+use Rattle.account.proofs.AcceptedOnly.{refused_some, still_refused, then_given}
 use Rattle.account.proofs.Places.{alone}
 use Rattle.account.proofs.Alone.{passes}
 use Rattle.margin.specs.Figures.{account_total}
@@ -28,14 +30,11 @@ use Rattle.margin.specs.Questions.{not_refused, if_accepted}
 use Rattle.formulas.specs.declared.amount.Amount.{Amount}
 use Rattle.margin.proofs.QuestionLaws.{accepted_only, if_accepted_lem, if_refused}
 use Rattle.tickets.specs.Ticket.{with_ticket, ticket_checked}
-use Rattle.screen.specs.code.Held.{order_in, total_in, put_at}
+use Rattle.screen.specs.code.Held.{order_in, total_in, asked_in, put_at}
 use Rattle.screen.specs.code.Inserting.{inserted}
 use Rattle.screen.specs.Screen.{held, load_answer, order_answer, no_room, add_answer, after_add, added, amount_of, total_held, total_read, total_with, limit_answer}
 use Rattle.screen.specs.Screen.{weighed, limited}
-use Rattle.screen.specs.declared.Added.{Added}
-use Rattle.screen.specs.declared.Added.TheVariants.{Refused as NotAdded, Holds}
-use Rattle.screen.specs.declared.Limited.TheVariants.{Refused as NotAsked, Within, Over}
-use Rattle.screen.specs.declared.Told.TheVariants.{Refused as NoTotal, Total}
+use Rattle.screen.specs.declared.Limited.TheVariants.{Within, Over}
 
 -- ---- one answer, then the next
 
@@ -59,10 +58,10 @@ module _ (lent : List ℕ) (named : ℕ) where
   pub all_lent : named ≤ length lent → load_answer lent named ≡ checked (held lent named)
   all_lent h = ap (λ (t : Bool). cond t (Err TooFewBytes) (checked (held lent named))) (le-ltb (length lent) named h)
 
-  total_by : (a : Answer) → load_answer lent named ≡ a → total_read lent named ≡ cond (not_refused a) (Total (amount_of (total_held lent named))) (NoTotal a)
-  total_by a e = ap (λ (a : Answer). cond (not_refused a) (Total (amount_of (total_held lent named))) (NoTotal a)) e
+  total_by : (a : Answer) → load_answer lent named ≡ a → total_read lent named ≡ and_then a (Ok (amount_of (total_held lent named)))
+  total_by a e = ap (λ (a : Answer). and_then a (Ok (amount_of (total_held lent named)))) e
 
-  pub total_lacking : length lent < named → total_read lent named ≡ NoTotal (Err TooFewBytes)
+  pub total_lacking : length lent < named → total_read lent named ≡ Err TooFewBytes
   total_lacking h = total_by (Err TooFewBytes) (lacking h)
 
   pub total_lent : named ≤ length lent → total_read lent named ≡ total_in (held lent named)
@@ -85,8 +84,8 @@ weigh_no limit total h = sym (ap (λ (t : Bool). cond t (Within total) (Over tot
 
 module _ (lent : List ℕ) (named : ℕ) (ticket : Record) (limit : ℤ) where
   limited_by : (a : Answer) → limit_answer lent named ticket limit ≡ a
-      → limited lent named ticket limit ≡ cond (not_refused a) (weighed (nat_abs limit) (total_with lent named ticket)) (NotAsked a)
-  limited_by a e = ap (λ (a : Answer). cond (not_refused a) (weighed (nat_abs limit) (total_with lent named ticket)) (NotAsked a)) e
+      → limited lent named ticket limit ≡ and_then a (Ok (weighed (nat_abs limit) (total_with lent named ticket)))
+  limited_by a e = ap (λ (a : Answer). and_then a (Ok (weighed (nat_abs limit) (total_with lent named ticket)))) e
 
   pub limit_below : lt_z limit (pos 0) ≡ true → limit_answer lent named ticket limit ≡ Err LimitBelowZero
   limit_below e = ap (λ (t : Bool). cond t (Err LimitBelowZero) (order_answer lent named ticket)) e
@@ -94,24 +93,28 @@ module _ (lent : List ℕ) (named : ℕ) (ticket : Record) (limit : ℤ) where
   pub limit_stands : lt_z limit (pos 0) ≡ false → limit_answer lent named ticket limit ≡ order_answer lent named ticket
   limit_stands e = ap (λ (t : Bool). cond t (Err LimitBelowZero) (order_answer lent named ticket)) e
 
-  pub below_zero : lt_z limit (pos 0) ≡ true → limited lent named ticket limit ≡ NotAsked (Err LimitBelowZero)
+  pub below_zero : lt_z limit (pos 0) ≡ true → limited lent named ticket limit ≡ Err LimitBelowZero
   below_zero e = limited_by (Err LimitBelowZero) (limit_below e)
 
-  pub limit_lacking : lt_z limit (pos 0) ≡ false → length lent < named → limited lent named ticket limit ≡ NotAsked (Err TooFewBytes)
+  pub limit_lacking : lt_z limit (pos 0) ≡ false → length lent < named → limited lent named ticket limit ≡ Err TooFewBytes
   limit_lacking e h = limited_by (Err TooFewBytes) (limit_stands e ∙ order_lacking lent named ticket h)
 
   module _ (e : lt_z limit (pos 0) ≡ false) (h : named ≤ length lent) where
     asked_is : limit_answer lent named ticket limit ≡ order_in (held lent named) ticket
     asked_is = limit_stands e ∙ order_lent lent named ticket h
 
-    pub limit_refused : (a : Answer) → a ≡ order_in (held lent named) ticket → (number_of a ≡ 0 → ⊥) → NotAsked a ≡ limited lent named ticket limit
-    limit_refused a f some =
-        sym
-        (limited_by a (asked_is ∙ sym f)
-        ∙ ap (λ (t : Bool). cond t (weighed (nat_abs limit) (total_with lent named ticket)) (NotAsked a)) (ne_eqb (number_of a) 0 some))
+    -- what the total is asked about with, is weighed
+    limit_by : limited lent named ticket limit ≡ and_then (order_in (held lent named) ticket) (Ok (weighed (nat_abs limit) (total_with lent named ticket)))
+    limit_by = limited_by (order_in (held lent named) ticket) asked_is
 
-    pub limit_asked : order_in (held lent named) ticket ≡ Ok tt → weighed (nat_abs limit) (total_with lent named ticket) ≡ limited lent named ticket limit
-    limit_asked f = sym (limited_by (Ok tt) (asked_is ∙ f))
+    pub limit_refused : (r : Refusal) → Err r ≡ asked_in (held lent named) ticket → Err r ≡ limited lent named ticket limit
+    limit_refused r e = sym (limit_by ∙ still_refused (order_in (held lent named) ticket) _ _ (sym e))
+
+    pub limit_asked : (total : Amount) → Ok total ≡ asked_in (held lent named) ticket → Ok (weighed (nat_abs limit) total.0) ≡ limited lent named ticket limit
+    limit_asked total e =
+        let given = then_given (order_in (held lent named) ticket) (sym e) in
+        ap (λ (a : Amount). Ok (weighed (nat_abs limit) a.0)) given.1
+        ∙ sym (limit_by ∙ ap (λ (a : Answer). and_then a (Ok (weighed (nat_abs limit) (total_with lent named ticket)))) given.0)
 
 -- ---- adding
 
@@ -144,30 +147,25 @@ put_long at row file h =
     omega (arith, h, t, d, p, q)
 
 -- how a call that adds comes out, with the lent bytes afterwards
-pub record Comes (lent : List ℕ) (named : ℕ) (ticket : Record) (r : Added) (lent' : List ℕ) : Type 0 where
+pub record Comes (lent : List ℕ) (named : ℕ) (ticket : Record) (r : Result ℕ Refusal) (lent' : List ℕ) : Type 0 where
   pub is : r ≡ added lent named ticket
   pub after : lent' ≡ after_add lent named ticket
 
 module _ (lent : List ℕ) (named : ℕ) (ticket : Record) where
-  pub not-added : (a : Answer) → add_answer lent named ticket ≡ a → (number_of a ≡ 0 → ⊥) → Comes lent named ticket (NotAdded a) lent
-  not-added a e h =
-      let no : not_refused a ≡ false = ne_eqb (number_of a) 0 h in
+  pub not-added : (r : Refusal) → add_answer lent named ticket ≡ Err r → Comes lent named ticket (Err r) lent
+  not-added r e =
       record {
-        is =
-            sym
-            (ap (λ (a : Answer). cond (not_refused a) (Holds (named + record_bytes)) (NotAdded a)) e
-            ∙ ap (λ (t : Bool). cond t (Holds (named + record_bytes)) (NotAdded a)) no);
-        after =
-            sym
-            (ap (λ (a : Answer). cond (not_refused a) (with_ticket (held lent named) ticket ++ drop (named + record_bytes) lent) lent) e
-            ∙ ap (λ (t : Bool). cond t (with_ticket (held lent named) ticket ++ drop (named + record_bytes) lent) lent) no);
+        is = sym (ap (λ (a : Answer). and_then a (Ok (named + record_bytes))) e);
+        after = sym (ap (λ (a : Answer). cond (not_refused a) (with_ticket (held lent named) ticket ++ drop (named + record_bytes) lent) lent) e
+            ∙ ap (λ (t : Bool). cond t (with_ticket (held lent named) ticket ++ drop (named + record_bytes) lent) lent)
+            (ne_eqb (refusal_number r) 0 (refused_some {a = Err r} refl)));
       }
 
   pub when_added : add_answer lent named ticket ≡ Ok tt
-      → Comes lent named ticket (Holds (named + record_bytes)) (with_ticket (held lent named) ticket ++ drop (named + record_bytes) lent)
+      → Comes lent named ticket (Ok (named + record_bytes)) (with_ticket (held lent named) ticket ++ drop (named + record_bytes) lent)
   when_added e =
       record {
-        is = sym (ap (λ (a : Answer). cond (not_refused a) (Holds (named + record_bytes)) (NotAdded a)) e);
+        is = sym (ap (λ (a : Answer). and_then a (Ok (named + record_bytes))) e);
         after = sym (ap (λ (a : Answer). cond (not_refused a) (with_ticket (held lent named) ticket ++ drop (named + record_bytes) lent) lent) e);
       }
 
@@ -189,36 +187,25 @@ module _ (lent : List ℕ) (named : ℕ) (ticket : Record) where
 
 -- ---- a file that is checked, by cases
 
-module _ (file : List ℕ) (r : Checked) (by : CheckedBy file r) where
-  pub total_refused : (number_of r.answer ≡ 0 → ⊥) → NoTotal r.answer ≡ total_in file
-  total_refused h =
-      ap NoTotal by.answer_is
-      ∙ sym
-      (ap (λ (t : Bool). cond t (Total (amount_of (account_total (records file)))) (NoTotal (checked file)))
-      (ne_eqb (number_of (checked file)) 0 (λ z. h (ap number_of by.answer_is ∙ z))))
+module _ (file : List ℕ) (r : Refusal) (by : CheckedBy file (Err r)) where
+  pub total_refused : Err r ≡ total_in file
+  total_refused = ap (λ (a : Answer). and_then a (Ok (amount_of (account_total (records file))))) by.answer_is
 
-  pub order_refused : (ticket : Record) → (number_of r.answer ≡ 0 → ⊥) → r.answer ≡ order_in file ticket
-  order_refused ticket h =
-      by.answer_is ∙ sym (if_refused (checked file) (ticket_checked file ticket) (λ z. h (ap number_of by.answer_is ∙ z)))
+  pub order_refused : (ticket : Record) → Err r ≡ order_in file ticket
+  order_refused ticket = by.answer_is ∙ sym (if_refused (checked file) (ticket_checked file ticket) (refused_some by.answer_is))
 
-  pub not_accepted : (number_of r.answer ≡ 0 → ⊥) → checked file ≡ Ok tt → ⊥
-  not_accepted h e = h (ap number_of (by.answer_is ∙ e))
+module _ (file : List ℕ) (account : Account) (by : CheckedBy file (Ok account)) where
+  pub ok : checked file ≡ Ok tt
+  ok = sym by.answer_is
 
-  module _ (z : number_of r.answer ≡ 0) where
-    pub from_check : CheckedBy file (record { answer = Ok tt; account = r.account })
-    from_check = record { answer_is = sym (accepted_only r.answer z) ∙ by.answer_is; alone_by = by.alone_by; stands = by.stands }
+  pub order_accepted : (ticket : Record) → order_in file ticket ≡ ticket_checked file ticket
+  order_accepted ticket = if_accepted_lem (checked file) (ticket_checked file ticket) ok
 
-    pub ok : checked file ≡ Ok tt
-    ok = accepted_only (checked file) (ap number_of (sym by.answer_is) ∙ z)
+  module _ (none : List ℕ) (nothing : none ≡ []) where
+    pub file_stands : Stands file none account
+    file_stands = by.accepted.stands none nothing
 
-    pub order_accepted : (ticket : Record) → order_in file ticket ≡ ticket_checked file ticket
-    order_accepted ticket = if_accepted_lem (checked file) (ticket_checked file ticket) ok
-
-    module _ (none : List ℕ) (nothing : none ≡ []) where
-      pub file_stands : Stands file none r.account
-      file_stands = by.stands ok none nothing
-
-      pub total_accepted : (a : Amount) → a.0 ≡ account_total (account_of file none) → Total a ≡ total_in file
-      total_accepted a e =
-          ap (λ (n : ℕ). Total (amount_of n)) (e ∙ ap account_total (alone file none nothing (passes file ok).recorded))
-          ∙ sym (ap (λ (a : Answer). cond (not_refused a) (Total (amount_of (account_total (records file)))) (NoTotal a)) ok)
+    pub total_accepted : (a : Amount) → a.0 ≡ account_total (account_of file none) → Ok a ≡ total_in file
+    total_accepted a e =
+        ap (λ (n : ℕ). Ok (amount_of n)) (e ∙ ap account_total (alone file none nothing (passes file ok).recorded))
+        ∙ ap (λ (a : Answer). and_then a (Ok (amount_of (account_total (records file))))) by.answer_is

@@ -10,7 +10,6 @@ use Rattle.account.specs.Answers.{Answer}
 use Rattle.tickets.specs.Ticket.{with_ticket, ticket_checked}
 use Rattle.screen.specs.Screen.{held, load_answer, order_answer, add_answer, after_add, amount_of, total_read, total_with, limit_answer, limited}
 use Rattle.screen.specs.declared.Limited.TheVariants.{Within, Over}
-use Rattle.screen.specs.declared.Told.TheVariants.{Total}
 
 -- an answer is refusal n with record k
 pub record AnswerSays (a : Answer) (n k : ℕ) : Type 0 where
@@ -46,9 +45,9 @@ pub record LimitExactly (lent : List ℕ) (named : ℕ) (ticket : Record) (limit
   pub twenty : Iff (number_of (limit_answer lent named ticket limit) ≡ 20) (lt_z limit (pos 0) ≡ true)
   pub others : (n k : ℕ) → (n ≡ 20 → ⊥)
       → Iff (AnswerSays (limit_answer lent named ticket limit) n k) ((lt_z limit (pos 0) ≡ false) × AnswerSays (order_answer lent named ticket) n k)
-  pub yes : (total : ℕ) → Iff (limited lent named ticket limit ≡ Within (amount_of total))
+  pub yes : (total : ℕ) → Iff (limited lent named ticket limit ≡ Ok (Within (amount_of total)))
       ((limit_answer lent named ticket limit ≡ Ok tt) × ((total_with lent named ticket ≡ total) × (total ≤ nat_abs limit)))
-  pub no : (total : ℕ) → Iff (limited lent named ticket limit ≡ Over (amount_of total))
+  pub no : (total : ℕ) → Iff (limited lent named ticket limit ≡ Ok (Over (amount_of total)))
       ((limit_answer lent named ticket limit ≡ Ok tt) × ((total_with lent named ticket ≡ total) × (nat_abs limit < total)))
 
 -- ---- after adding
@@ -58,7 +57,7 @@ pub record LimitExactly (lent : List ℕ) (named : ℕ) (ticket : Record) (limit
 pub record AfterAdding (lent : List ℕ) (named : ℕ) (ticket : Record) : Type 0 where
   pub holds : held (after_add lent named ticket) (named + record_bytes) ≡ with_ticket (held lent named) ticket
   pub loads : load_answer (after_add lent named ticket) (named + record_bytes) ≡ Ok tt
-  pub total : total_read (after_add lent named ticket) (named + record_bytes) ≡ Total (amount_of (total_with lent named ticket))
+  pub total : total_read (after_add lent named ticket) (named + record_bytes) ≡ Ok (amount_of (total_with lent named ticket))
   pub beyond : drop (named + record_bytes) (after_add lent named ticket) ≡ drop (named + record_bytes) lent
   pub as_long : length (after_add lent named ticket) ≡ length lent
 

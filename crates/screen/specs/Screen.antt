@@ -1,22 +1,19 @@
 -- Request 2026-14, "The order screen's limit": what each call answers, and what the lent bytes hold afterwards.
 -- Assumes nothing.
-use Rattle.std.specs.Prelude.{ℕ, ◌+◌, Bool, cond, List, ◌++◌, leb, ltb, ℤ, pos, nat_abs, length, take, drop, Ok, Err}
+use Rattle.std.specs.Prelude.{ℕ, ◌+◌, Bool, cond, List, ◌++◌, leb, ltb, ℤ, pos, nat_abs, length, take, drop, Result, Ok, Err}
 use Rattle.std.specs.Int.Signed.{lt_z}
 use Rattle.record.specs.Layout.{Record, record_bytes}
 use Rattle.account.specs.Checked.{checked}
 use Rattle.account.specs.Records.{records}
-use Rattle.account.specs.Answers.{Answer}
+use Rattle.account.specs.Answers.{Answer, and_then}
+use Rattle.account.specs.declared.answers.Refusal.{Refusal}
 use Rattle.account.specs.declared.answers.Refusal.TheVariants.{TooFewBytes, LimitBelowZero}
 use Rattle.margin.specs.Figures.{account_total}
 use Rattle.margin.specs.Questions.{not_refused, if_accepted}
 use Rattle.formulas.specs.declared.amount.Amount.{Amount}
 use Rattle.tickets.specs.Ticket.{with_ticket, ticket_checked}
-use Rattle.screen.specs.declared.Added.{Added}
-use Rattle.screen.specs.declared.Added.TheVariants.{Refused as NotAdded, Holds}
-use Rattle.screen.specs.declared.Told.{Told}
-use Rattle.screen.specs.declared.Told.TheVariants.{Refused as NoTotal, Total}
 use Rattle.screen.specs.declared.Limited.{Limited}
-use Rattle.screen.specs.declared.Limited.TheVariants.{Refused as NotAsked, Within, Over}
+use Rattle.screen.specs.declared.Limited.TheVariants.{Within, Over}
 
 -- "The screen lends bytes, says how many hold the account file with its tickets"
 abbrev pub held : List ℕ → ℕ → List ℕ
@@ -45,9 +42,8 @@ after_add lent named ticket =
     cond (not_refused (add_answer lent named ticket)) (with_ticket (held lent named) ticket ++ drop (named + record_bytes) lent) lent
 
 -- how many bytes hold the account file then
-abbrev pub added : List ℕ → ℕ → Record → Added
-added lent named ticket =
-    cond (not_refused (add_answer lent named ticket)) (Holds (named + record_bytes)) (NotAdded (add_answer lent named ticket))
+abbrev pub added : List ℕ → ℕ → Record → Result ℕ Refusal
+added lent named ticket = and_then (add_answer lent named ticket) (Ok (named + record_bytes))
 
 -- ---- "read the total"
 
@@ -57,9 +53,8 @@ amount_of n = record { 0 = n }
 abbrev pub total_held : List ℕ → ℕ → ℕ
 total_held lent named = account_total (records (held lent named))
 
-abbrev pub total_read : List ℕ → ℕ → Told
-total_read lent named =
-    cond (not_refused (load_answer lent named)) (Total (amount_of (total_held lent named))) (NoTotal (load_answer lent named))
+abbrev pub total_read : List ℕ → ℕ → Result Amount Refusal
+total_read lent named = and_then (load_answer lent named) (Ok (amount_of (total_held lent named)))
 
 -- ---- "ask whether the total with a ticket stays at or below the client's limit"
 
@@ -74,41 +69,27 @@ limit_answer lent named ticket limit = cond (lt_z limit (pos 0)) (Err LimitBelow
 abbrev pub weighed : ℕ → ℕ → Limited
 weighed limit total = cond (leb total limit) (Within (amount_of total)) (Over (amount_of total))
 
-abbrev pub limited : List ℕ → ℕ → Record → ℤ → Limited
+abbrev pub limited : List ℕ → ℕ → Record → ℤ → Result Limited Refusal
 limited lent named ticket limit =
-    cond (not_refused (limit_answer lent named ticket limit)) (weighed (nat_abs limit) (total_with lent named ticket))
-    (NotAsked (limit_answer lent named ticket limit))
+    and_then (limit_answer lent named ticket limit) (Ok (weighed (nat_abs limit) (total_with lent named ticket)))
 
--- ---- in numbers: the refusal, Accepted where there is none, and what comes back, 0 where it is refused
+-- ---- in numbers: what comes back, 0 where it is refused
 
-abbrev pub add_refusal : Added → Answer
-add_refusal (NotAdded answer) = answer
-add_refusal (Holds bytes) = Ok tt
+abbrev pub bytes_held : Result ℕ Refusal → ℕ
+bytes_held (Err r) = 0
+bytes_held (Ok bytes) = bytes
 
-abbrev pub bytes_held : Added → ℕ
-bytes_held (NotAdded answer) = 0
-bytes_held (Holds bytes) = bytes
-
-abbrev pub total_refusal : Told → Answer
-total_refusal (NoTotal answer) = answer
-total_refusal (Total amount) = Ok tt
-
-abbrev pub total_told : Told → ℕ
-total_told (NoTotal answer) = 0
-total_told (Total amount) = amount.0
-
-abbrev pub limit_refusal : Limited → Answer
-limit_refusal (NotAsked answer) = answer
-limit_refusal (Within total) = Ok tt
-limit_refusal (Over total) = Ok tt
+abbrev pub total_told : Result Amount Refusal → ℕ
+total_told (Err r) = 0
+total_told (Ok amount) = amount.0
 
 -- 1 for a yes, 2 for a no
-abbrev pub limit_number : Limited → ℕ
-limit_number (NotAsked answer) = 0
-limit_number (Within total) = 1
-limit_number (Over total) = 2
+abbrev pub limit_number : Result Limited Refusal → ℕ
+limit_number (Err r) = 0
+limit_number (Ok (Within total)) = 1
+limit_number (Ok (Over total)) = 2
 
-abbrev pub limit_total : Limited → ℕ
-limit_total (NotAsked answer) = 0
-limit_total (Within total) = total.0
-limit_total (Over total) = total.0
+abbrev pub limit_total : Result Limited Refusal → ℕ
+limit_total (Err r) = 0
+limit_total (Ok (Within total)) = total.0
+limit_total (Ok (Over total)) = total.0

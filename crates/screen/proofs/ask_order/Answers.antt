@@ -1,66 +1,58 @@
 -- The total with a ticket, by the kept account, where nothing is refused.
 -- Assumes nothing.
-use mathlib.Core.Path.{◌≡◌, sym, ap, ◌∙◌}
+use Rattle.std.specs.Prelude.{Result, Ok}
+use Rattle.std.proofs.lemmas.Result.{err_from_is_err_and}
+use mathlib.Core.Path.{sym, ap, ◌∙◌, subst}
+use Rattle.account.specs.code.Standing.{CheckedBy}
+use Rattle.account.specs.declared.accounts.Account.{Account}
+use Rattle.account.specs.declared.answers.Refusal.{Refusal}
+use Prim.Native.Nat.{ℕ}
 use mathlib.Core.List.{[], ◌∷◌}
-use native.Mathlib.Omega.{arith}
-use Rattle.account.specs.Answers.{number_of}
-use Rattle.screen.proofs.ScreenLaws.{order_refused, from_check, order_accepted}
+use Rattle.account.specs.Answers.{Answer, and_then, answer_of}
+use Rattle.account.specs.Records.{records}
+use Rattle.margin.specs.Figures.{account_total}
+use Rattle.tickets.specs.Ticket.{with_ticket}
+use Rattle.tickets.specs.code.Kept.{AddedTo}
+use Rattle.tickets.specs.declared.kept.Kept.{Kept}
+use Rattle.screen.specs.Screen.{amount_of}
+use Rattle.screen.proofs.ScreenLaws.{order_refused, order_accepted}
 use Rattle.screen.proofs.ask_order.Goals as goal
-use Rattle.screen.proofs.ask_order.Goals.{Else-number_of-ne0, Else-number_of-ne0-2}
 
--- nothing is refused so far
-clear : (c : Else-number_of-ne0) → number_of c.check_file-checked.result.answer ≡ 0
-clear c = sym c.number_of.ensures ∙ omega (arith, c.if-number_of-ne0.false)
-
--- nor is the ticket
-taken : (c : Else-number_of-ne0-2) → number_of c.add-keeping.result.answer ≡ 0
-taken c = sym c.number_of-2.ensures ∙ omega (arith, c.if-number_of-ne0-2.false)
-
-pub returns-then-number_of-ne0 : goal.returns-then-number_of-ne0
-returns-then-number_of-ne0 c =
+pub returns-in_err-account : goal.returns-in_err-account
+returns-in_err-account c =
     let a = c.args in
-    let o = c.check_file-checked in
-    let some : number_of o.result.answer ≡ 0 → ⊥ = λ z. c.if-number_of-ne0.true (c.number_of.ensures ∙ z) in
-    let is = order_refused a.file.now o.result o.ensures a.ticket.now some in
-    record { answer_is = is; total_is = λ e. absurd (some (ap number_of (is ∙ e))) }
+    let p = err_from_is_err_and c.from_residual.result c.from_residual.ensures.1 in
+    let by = subst (λ (r : Result Account Refusal). CheckedBy c.args.file.now r) c.in_err-account.was c.check_file.ensures in
+    rw (p.1, p.2)
+    (ap (λ (x : Answer). and_then x (Ok (amount_of (account_total (records (with_ticket a.file.now a.ticket.now))))))
+    (order_refused a.file.now c.in_err-account.field-0.0 by a.ticket.now))
 
-pub keep-kept-requires : goal.keep-kept-requires
-keep-kept-requires c =
+pub keep-requires : goal.keep-requires
+keep-requires c =
+    subst (λ (r : Result Account Refusal). CheckedBy c.args.file.now r) c.in_ok-account.was c.check_file.ensures
+
+pub add-requires : goal.add-requires
+add-requires c = record { tickets = []; kept = c.keep.ensures }
+
+pub returns-in_err-more : goal.returns-in_err-more
+returns-in_err-more c =
     let a = c.args in
-    let o = c.check_file-checked in
-    from_check a.file.now o.result o.ensures (clear (goal.at.keep-kept-requires c).Else-number_of-ne0)
-
-pub add-keeping-requires : goal.add-keeping-requires
-add-keeping-requires c = record { tickets = []; kept = c.keep-kept.ensures }
-
-pub returns-then-number_of-ne0-2 : goal.returns-then-number_of-ne0-2
-returns-then-number_of-ne0-2 c =
-    let a = c.args in
-    let o = c.check_file-checked in
-    let t = c.add-keeping in
-    let some : number_of t.result.answer ≡ 0 → ⊥ = λ z. c.if-number_of-ne0-2.true (c.number_of-2.ensures ∙ z) in
-    let is = t.ensures.told [] c.keep-kept.ensures
-    ∙ sym (order_accepted a.file.now o.result o.ensures (clear (goal.at.returns-then-number_of-ne0-2 c).Else-number_of-ne0) a.ticket.now) in
-    record { answer_is = is; total_is = λ e. absurd (some (ap number_of (is ∙ e))) }
+    let p = err_from_is_err_and c.from_residual-in_err-more.result c.from_residual-in_err-more.ensures.1 in
+    let by = subst (λ (r : Result Account Refusal). CheckedBy c.args.file.now r) c.in_ok-account.was c.check_file.ensures in
+    rw (p.1, p.2)
+    (ap (λ (x : Answer). and_then x (Ok (amount_of (account_total (records (with_ticket a.file.now a.ticket.now))))))
+    (sym (ap answer_of c.in_err-more.was) ∙ c.add.ensures.told [] c.keep.ensures ∙ sym (order_accepted a.file.now c.in_ok-account.account by a.ticket.now)))
 
 pub kept_total-requires : goal.kept_total-requires
 kept_total-requires c =
-    let a = c.args in
-    let t = c.add-keeping in
-    record {
-      tickets = a.ticket.now ∷ [];
-      kept = t.ensures.accepted (taken (goal.at.kept_total-requires c).Else-number_of-ne0-2) [] c.keep-kept.ensures;
-    }
+    let added = subst (λ (r : Result Kept Refusal). AddedTo c.args.file.now c.keep.result c.args.ticket.now r) c.in_ok-more.was c.add.ensures in
+    record { tickets = c.args.ticket.now ∷ []; kept = added.accepted [] c.keep.ensures }
 
 pub returns : goal.returns
 returns c =
     let a = c.args in
-    let o = c.check_file-checked in
-    let t = c.add-keeping in
-    let k = c.keep-kept.ensures in
-    record {
-      answer_is =
-          t.ensures.told [] k
-          ∙ sym (order_accepted a.file.now o.result o.ensures (clear (goal.at.returns c).Else-number_of-ne0) a.ticket.now);
-      total_is = λ e. c.kept_total.ensures (a.ticket.now ∷ []) (t.ensures.accepted (taken (goal.at.returns c).Else-number_of-ne0-2) [] k);
-    }
+    let by = subst (λ (r : Result Account Refusal). CheckedBy c.args.file.now r) c.in_ok-account.was c.check_file.ensures in
+    let added = subst (λ (r : Result Kept Refusal). AddedTo a.file.now c.keep.result a.ticket.now r) c.in_ok-more.was c.add.ensures in
+    let fine = order_accepted a.file.now c.in_ok-account.account by a.ticket.now ∙ sym (added.told [] c.keep.ensures) in
+    ap (λ (n : ℕ). Ok (amount_of n)) (c.kept_total.ensures (a.ticket.now ∷ []) (added.accepted [] c.keep.ensures))
+    ∙ sym (ap (λ (x : Answer). and_then x (Ok (amount_of (account_total (records (with_ticket a.file.now a.ticket.now)))))) fine)

@@ -1,19 +1,18 @@
 -- A ticket asked about: refused, or its total weighed against the limit.
 -- Assumes nothing.
 use Rattle.std.specs.Prelude.{Ok}
-use mathlib.Core.Path.{◌≡◌, sym, ap₂, ◌∙◌}
+use Rattle.std.proofs.lemmas.Result.{err_from_is_err_and}
+use mathlib.Core.Path.{◌≡◌, sym, ap, ◌∙◌}
 use mathlib.Core.Bool.{false}
-use Prim.Native.Nat.{◌≤◌}
+use Prim.Native.Nat.{ℕ, ◌≤◌}
 use native.Mathlib.Omega.{arith}
 use lib.IntN.{pos, nat_abs}
 use lib.ListN.{length}
 use lib.Seq.{length-take-le}
 use lib.Signed.{lt_z}
 use Rattle.exact.proofs.Integers.{seen}
-use Rattle.account.specs.Answers.{number_of}
-use Rattle.margin.proofs.QuestionLaws.{accepted_only}
-use Rattle.screen.specs.code.Held.{order_in}
-use Rattle.screen.specs.Screen.{held, weighed}
+use Rattle.screen.specs.Screen.{weighed}
+use Rattle.screen.specs.declared.Limited.{Limited}
 use Rattle.screen.proofs.ScreenLaws.{below_zero, limit_lacking, limit_refused, limit_asked}
 use Rattle.screen.proofs.limit.Goals as goal
 use Rattle.screen.proofs.limit.Goals.{Else-below, Else-lent-named}
@@ -44,21 +43,17 @@ slice_bounds-ask_order-end c =
     let a = c.args in
     sym (length-take-le a.named a.lent.now (named-lent c))
 
-pub returns-then-number_of-ne0 : goal.returns-then-number_of-ne0
-returns-then-number_of-ne0 c =
+pub returns-in_err-total : goal.returns-in_err-total
+returns-in_err-total c =
     let a = c.args in
-    let o = c.ask_order-asked in
-    limit_refused a.lent.now a.named a.ticket.now a.limit (stands (goal.at.returns-then-number_of-ne0 c).Else-below) (named-lent (goal.at.returns-then-number_of-ne0 c).Else-lent-named)
-    o.result.answer o.ensures.answer_is
-    (λ z. c.if-number_of-ne0.true (c.number_of.ensures ∙ z))
+    let p = err_from_is_err_and c.from_residual.result c.from_residual.ensures.1 in
+    rw (p.1, p.2)
+    (limit_refused a.lent.now a.named a.ticket.now a.limit (stands (goal.at.returns-in_err-total c).Else-below) (named-lent (goal.at.returns-in_err-total c).Else-lent-named)
+    c.in_err-total.field-0.0 (sym c.in_err-total.was ∙ c.ask_order.ensures))
 
 pub returns : goal.returns
 returns c =
     let a = c.args in
-    let o = c.ask_order-asked in
-    let z : number_of o.result.answer ≡ 0 = sym c.number_of.ensures
-    ∙ omega (arith, c.if-number_of-ne0.false) in
-    let fine : order_in (held a.lent.now a.named) a.ticket.now ≡ (Ok tt) = sym o.ensures.answer_is ∙ accepted_only o.result.answer z in
-    c.weigh.ensures
-    ∙ ap₂ weighed (seen nat_abs a.limit c.ranges.limit c.magnitude.ensures) (o.ensures.total_is fine)
-    ∙ limit_asked a.lent.now a.named a.ticket.now a.limit (stands (goal.at.returns c).Else-below) (named-lent (goal.at.returns c).Else-lent-named) fine
+    ap (λ (l : Limited). Ok l) (c.weigh.ensures ∙ ap (λ (n : ℕ). weighed n c.in_ok-total.total.0) (seen nat_abs a.limit c.ranges.limit c.magnitude.ensures))
+    ∙ limit_asked a.lent.now a.named a.ticket.now a.limit (stands (goal.at.returns c).Else-below) (named-lent (goal.at.returns c).Else-lent-named)
+    c.in_ok-total.total (sym c.in_ok-total.was ∙ c.ask_order.ensures)

@@ -1,33 +1,26 @@
 -- The total of an account file: its refusal, or the total of the account that stands in it alone.
 -- Assumes nothing.
-use mathlib.Core.Path.{◌≡◌, sym, ◌∙◌}
-use native.Mathlib.Omega.{arith}
-use Rattle.account.specs.Answers.{number_of}
+use Rattle.std.specs.Prelude.{Result}
+use Rattle.std.proofs.lemmas.Result.{err_from_is_err_and}
+use mathlib.Core.Path.{subst}
+use Rattle.account.specs.code.Standing.{CheckedBy}
+use Rattle.account.specs.declared.accounts.Account.{Account}
+use Rattle.account.specs.declared.answers.Refusal.{Refusal}
 use Rattle.screen.proofs.ScreenLaws.{total_refused, file_stands, total_accepted}
 use Rattle.screen.proofs.total_in.Goals as goal
-use Rattle.screen.proofs.total_in.Goals.{Else-number_of-ne0}
 
--- nothing is refused so far
-clear : (c : Else-number_of-ne0) → number_of c.check_file-checked.result.answer ≡ 0
-clear c = sym c.number_of.ensures ∙ omega (arith, c.if-number_of-ne0.false)
-
-pub returns-then-number_of-ne0 : goal.returns-then-number_of-ne0
-returns-then-number_of-ne0 c =
-    let a = c.args in
-    let o = c.check_file-checked in
-    total_refused a.file.now o.result o.ensures (λ e. c.if-number_of-ne0.true (c.number_of.ensures ∙ e))
+pub returns-in_err-account : goal.returns-in_err-account
+returns-in_err-account c =
+    let p = err_from_is_err_and c.from_residual.result c.from_residual.ensures.1 in
+    let by = subst (λ (r : Result Account Refusal). CheckedBy c.args.file.now r) c.in_err-account.was c.check_file.ensures in
+    rw (p.1, p.2) (total_refused c.args.file.now c.in_err-account.field-0.0 by)
 
 pub total_over-requires : goal.total_over-requires
 total_over-requires c =
-    let a = c.args in
-    let o = c.check_file-checked in
-    let n = c.nothing_of in
-    file_stands a.file.now o.result o.ensures (clear (goal.at.total_over-requires c).Else-number_of-ne0) n.result.now n.ensures
+    let by = subst (λ (r : Result Account Refusal). CheckedBy c.args.file.now r) c.in_ok-account.was c.check_file.ensures in
+    file_stands c.args.file.now c.in_ok-account.account by c.nothing_of.result.now c.nothing_of.ensures
 
 pub returns : goal.returns
 returns c =
-    let a = c.args in
-    let o = c.check_file-checked in
-    let n = c.nothing_of in
-    total_accepted a.file.now o.result o.ensures (clear (goal.at.returns c).Else-number_of-ne0) n.result.now n.ensures
-    c.total_over.result c.total_over.ensures
+    let by = subst (λ (r : Result Account Refusal). CheckedBy c.args.file.now r) c.in_ok-account.was c.check_file.ensures in
+    total_accepted c.args.file.now c.in_ok-account.account by c.nothing_of.result.now c.nothing_of.ensures c.total_over.result c.total_over.ensures

@@ -10,8 +10,8 @@ returns-then-total-limit c =
     let t = c.if-total-limit.true in
     weigh_yes a.limit a.total (omega (arith, t))
 
-pub returns : goal.returns
-returns c =
+pub returns-else-total-limit : goal.returns-else-total-limit
+returns-else-total-limit c =
     let a = c.args in
     let t = c.if-total-limit.false in
     weigh_no a.limit a.total (omega (arith, t))

@@ -1,5 +1,6 @@
 -- What C is told leaves no choice: two outcomes of an answer are the same, and so are those of all questions at once.
 -- Assumes nothing.
+use Rattle.std.specs.Prelude.{Result}
 use Prim.Native.Nat.{ℕ}
 use mathlib.Core.Path.{◌≡◌, sym, ◌∙◌}
 use mathlib.Core.List.{List}
@@ -7,11 +8,11 @@ use Rattle.account.specs.Answers.{Answer}
 use Rattle.account.specs.declared.noon.Place.{Place}
 use Rattle.account.specs.declared.noon.Verdict.{Verdict}
 use Rattle.lists.specs.declared.JudgedPair.{JudgedPair}
+use Rattle.account.specs.declared.answers.Refusal.{Refusal}
+use Rattle.formulas.specs.declared.amount.Amount.{Amount}
 use Rattle.margin.specs.declared.lists.Judged.{Judged}
 use Rattle.questions.specs.declared.noon.Call.{Call}
-use Rattle.screen.specs.declared.Added.{Added}
 use Rattle.screen.specs.declared.Limited.{Limited}
-use Rattle.screen.specs.declared.Told.{Told}
 use Rattle.felgotany.specs.code.Outcomes.{TellsAdded, TellsTotal, TellsLimit, Tells, TellsOf, TellsCall, TellsPlace, TellsList, TellsPairList, TellsAsked}
 use Rattle.felgotany.specs.code.Outcomes.{TellsWritten}
 use Rattle.felgotany.specs.declared.AddOutcome.{AddOutcome}
@@ -70,7 +71,7 @@ pub one_place : (p : Place) (r s : PromptPlace) → TellsPlace p r → TellsPlac
 one_place p r s x y =
     λ i. record { file = (x.file_is ∙ sym y.file_is) i; first = (x.first_is ∙ sym y.first_is) i; records = (x.records_are ∙ sym y.records_are) i }
 
-pub one_list : (j : Judged) (r s : ListOutcome) → TellsList j r → TellsList j s → r ≡ s
+pub one_list : (j : Result Judged Refusal) (r s : ListOutcome) → TellsList j r → TellsList j s → r ≡ s
 one_list j r s x y =
     λ i.
     record {
@@ -84,7 +85,7 @@ pub one_pair_list : (j : JudgedPair) (r s : PairListOutcome) → TellsPairList j
 one_pair_list j r s x y =
     λ i. record { file = (x.file_is ∙ sym y.file_is) i; list = one_list j.judged r.list s.list x.list_is y.list_is i }
 
-pub one_added : (a : Added) (r s : AddOutcome) → TellsAdded a r → TellsAdded a s → r ≡ s
+pub one_added : (a : Result ℕ Refusal) (r s : AddOutcome) → TellsAdded a r → TellsAdded a s → r ≡ s
 one_added a r s x y =
     λ i.
     record {
@@ -93,7 +94,7 @@ one_added a r s x y =
       named = (x.named_are ∙ sym y.named_are) i;
     }
 
-pub one_total : (t : Told) (r s : TotalOutcome) → TellsTotal t r → TellsTotal t s → r ≡ s
+pub one_total : (t : Result Amount Refusal) (r s : TotalOutcome) → TellsTotal t r → TellsTotal t s → r ≡ s
 one_total t r s x y =
     λ i.
     record {
@@ -102,7 +103,7 @@ one_total t r s x y =
       total = (x.total_is ∙ sym y.total_is) i;
     }
 
-pub one_limit : (l : Limited) (r s : LimitOutcome) → TellsLimit l r → TellsLimit l s → r ≡ s
+pub one_limit : (l : Result Limited Refusal) (r s : LimitOutcome) → TellsLimit l r → TellsLimit l s → r ≡ s
 one_limit l r s x y =
     λ i.
     record {

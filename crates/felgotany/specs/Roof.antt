@@ -3,7 +3,7 @@
 -- touched, the table of paired scenarios, what holds of a run of accounts, of the committee's figures of it, of tickets, of a file of
 -- entries and of the order screen's calls, and that no promise leaves a choice. proofs/Roof.antt proves it of any bytes.
 -- Assumes nothing.
-use Rattle.std.specs.Prelude.{ℕ, ◌≡◌, Bool, true, List, ℤ, length, Ok}
+use Rattle.std.specs.Prelude.{ℕ, ◌≡◌, Bool, true, List, ℤ, length, Result, Ok}
 use Rattle.std.specs.Borrow.{Bor}
 use Rattle.exact.specs.Fractions.{Fractions}
 use Rattle.exact.specs.Largest.{IsLargest}
@@ -44,6 +44,8 @@ use Rattle.margin.specs.Reckoned.{Reckoned, Printed}
 use Rattle.margin.specs.Skipped.{NoneSkipped}
 use Rattle.margin.specs.Touched.{TouchesCounted}
 use Rattle.margin.specs.Unpaired.{NothingOpen}
+use Rattle.account.specs.declared.answers.Refusal.{Refusal}
+use Rattle.formulas.specs.declared.amount.Amount.{Amount}
 use Rattle.margin.specs.declared.lists.Judged.{Judged}
 use Rattle.margin.specs.declared.asking.Question.{Question}
 use Rattle.questions.specs.declared.held.Asked.{Asked}
@@ -59,9 +61,7 @@ use Rattle.tickets.specs.code.KeptClaims.{KeptClaims}
 use Rattle.tickets.specs.declared.ask.Asked.{Asked as AskedTicket}
 use Rattle.writing.specs.Claims.{Claims as WritingClaims}
 use Rattle.screen.specs.Claims.{Claims as ScreenClaims}
-use Rattle.screen.specs.declared.Added.{Added}
 use Rattle.screen.specs.declared.Limited.{Limited}
-use Rattle.screen.specs.declared.Told.{Told}
 use Rattle.felgotany.specs.code.Outcomes.{TellsAdded, TellsTotal, TellsLimit, TellsAsked, TellsWritten, Tells, TellsOf, TellsCall, TellsPlace, TellsList}
 use Rattle.felgotany.specs.code.Outcomes.{TellsPairList}
 use Rattle.felgotany.specs.declared.AddOutcome.{AddOutcome}
@@ -154,13 +154,13 @@ pub record OneOutcome : Type 0 where
       → TellsOf a s.figures × (TellsOf b s.books × TellsOf c s.uses) → r ≡ s
   pub called : (c : Call) (r s : CallOutcome) → TellsCall c r → TellsCall c s → r ≡ s
   pub placed : (p : Place) (r s : PromptPlace) → TellsPlace p r → TellsPlace p s → r ≡ s
-  pub list_told : (j : Judged) (r s : ListOutcome) → TellsList j r → TellsList j s → r ≡ s
+  pub list_told : (j : Result Judged Refusal) (r s : ListOutcome) → TellsList j r → TellsList j s → r ≡ s
   pub ticket_told : (a : AskedTicket) (r s : TicketOutcome) → TellsAsked a r → TellsAsked a s → r ≡ s
   pub write_told : (entries lent after : List ℕ) (r s : WriteOutcome)
       → TellsWritten entries lent r after → TellsWritten entries lent s after → r ≡ s
-  pub add_told : (a : Added) (r s : AddOutcome) → TellsAdded a r → TellsAdded a s → r ≡ s
-  pub total_told : (t : Told) (r s : TotalOutcome) → TellsTotal t r → TellsTotal t s → r ≡ s
-  pub limit_told : (l : Limited) (r s : LimitOutcome) → TellsLimit l r → TellsLimit l s → r ≡ s
+  pub add_told : (a : Result ℕ Refusal) (r s : AddOutcome) → TellsAdded a r → TellsAdded a s → r ≡ s
+  pub total_told : (t : Result Amount Refusal) (r s : TotalOutcome) → TellsTotal t r → TellsTotal t s → r ≡ s
+  pub limit_told : (l : Result Limited Refusal) (r s : LimitOutcome) → TellsLimit l r → TellsLimit l s → r ≡ s
   pub pair_list_told : (j : JudgedPair) (r s : PairListOutcome) → TellsPairList j r → TellsPairList j s → r ≡ s
 
 -- ---- all of it

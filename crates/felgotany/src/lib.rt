@@ -11,11 +11,12 @@ ghost use Rattle.questions.specs.Questions.{books_answer, books_after, all_uses_
 ghost use Rattle.account.specs.Noon.{prompt_place};
 ghost use Rattle.questions.specs.Noon.{joined_figures, after_joined_figures, joined_book, after_joined_book, joined_uses, after_joined_uses, joined_call, joined_need};
 ghost use Rattle.questions.specs.Noon.{joined_all, after_joined_all};
-ghost use Rattle.lists.specs.Lists.{answer_in, verdict_number, step_named, judged_to, joined_judged};
+ghost use Rattle.account.specs.Answers.{answer_of};
+ghost use Rattle.lists.specs.Lists.{verdict_number, step_named, judged_to, joined_judged};
 ghost use Rattle.margin.specs.declared.asking.Question.TheVariants.{Figures, Book, Uses};
 ghost use Rattle.runs.specs.Runs.{run_answer, run_figures, run_outcomes};
 ghost use Rattle.committee.specs.Committee.{committee_answer, after_committee};
-ghost use Rattle.screen.specs.Screen.{load_answer, added, after_add, total_read, limited, add_refusal, bytes_held, total_refusal, total_told, limit_refusal};
+ghost use Rattle.screen.specs.Screen.{load_answer, added, after_add, total_read, limited};
 ghost use Rattle.screen.specs.Screen.{limit_number, limit_total};
 ghost use Rattle.felgotany.specs.code.Outcomes.{TellsAdded, TellsTotal, TellsLimit, Tells, TellsOf, TellsCall, TellsPlace, TellsList, TellsPairList};
 ghost use Rattle.felgotany.specs.code.Outcomes.{TellsAsked, TellsWritten};
@@ -27,12 +28,13 @@ use account::noon::{Verdict, prompt_place};
 use committee::answer_committee;
 use lists::{judge, judge_joined};
 use margin::asking::Question;
+use formulas::amount::Amount;
 use margin::lists::Judged;
 use questions::held::ask_all;
 use questions::noon::cover_call;
 use questions::plain::{answer, needed};
 use runs::answer_run;
-use screen::{Added, Limited, Told};
+use screen::Limited;
 use tickets::ask::{Asked, ask, ask_withdrawn};
 use writing::write;
 
@@ -50,6 +52,16 @@ fn tell(answer: Result<(), Refusal>) -> Outcome
     Outcome {
         refusal: number_of(answer),
         record: record_of(answer),
+    }
+}
+
+// The same of what comes back with a value.
+fn tell_answer<T>(told: &Result<T, Refusal>) -> Outcome
+    ensures { Tells (answer_of told.now) result }
+{
+    match told {
+        Ok(_) => tell(Ok(())),
+        Err(refusal) => tell(Err(*refusal)),
     }
 }
 
@@ -380,47 +392,34 @@ pub struct ListOutcome {
     pub step: usize,
 }
 
-fn answer_in(judged: Judged) -> Result<(), Refusal>
-    ensures { result ≡ answer_in judged }
-{
-    match judged {
-        Judged::Refused(answer) => answer,
-        Judged::Right => Ok(()),
-        Judged::MoreThanFormed(_) => Ok(()),
-        Judged::LessThanFormed(_) => Ok(()),
-        Judged::WrongUse(_) => Ok(()),
-    }
-}
-
-fn verdict_number(judged: Judged) -> usize
+fn verdict_number(judged: Result<Judged, Refusal>) -> usize
     ensures { result ≡ verdict_number judged }
 {
     match judged {
-        Judged::Refused(_) => 0,
-        Judged::Right => 1,
-        Judged::MoreThanFormed(_) => 2,
-        Judged::LessThanFormed(_) => 3,
-        Judged::WrongUse(_) => 4,
+        Err(_) => 0,
+        Ok(Judged::Right) => 1,
+        Ok(Judged::MoreThanFormed(_)) => 2,
+        Ok(Judged::LessThanFormed(_)) => 3,
+        Ok(Judged::WrongUse(_)) => 4,
     }
 }
 
-fn step_named(judged: Judged) -> usize
+fn step_named(judged: Result<Judged, Refusal>) -> usize
     ensures { result ≡ step_named judged }
 {
     match judged {
-        Judged::Refused(_) => 0,
-        Judged::Right => 0,
-        Judged::MoreThanFormed(step) => step,
-        Judged::LessThanFormed(step) => step,
-        Judged::WrongUse(step) => step,
+        Err(_) => 0,
+        Ok(Judged::Right) => 0,
+        Ok(Judged::MoreThanFormed(step)) => step,
+        Ok(Judged::LessThanFormed(step)) => step,
+        Ok(Judged::WrongUse(step)) => step,
     }
 }
 
-fn tell_list(judged: Judged) -> ListOutcome
+fn tell_list(judged: Result<Judged, Refusal>) -> ListOutcome
     ensures { TellsList judged result }
 {
-    let answer = answer_in(judged);
-    let told = tell(answer);
+    let told = tell_answer(&judged);
     ListOutcome {
         refusal: told.refusal,
         record: told.record,
@@ -489,33 +488,14 @@ pub struct AddOutcome {
     pub named: usize,
 }
 
-fn add_refusal(added: Added) -> Result<(), Refusal>
-    ensures { result ≡ add_refusal added }
-{
-    match added {
-        Added::Refused(answer) => answer,
-        Added::Holds(_) => Ok(()),
-    }
-}
-
-fn bytes_held(added: Added) -> usize
-    ensures { result ≡ bytes_held added }
-{
-    match added {
-        Added::Refused(_) => 0,
-        Added::Holds(bytes) => bytes,
-    }
-}
-
-fn tell_added(added: Added) -> AddOutcome
+fn tell_added(added: Result<usize, Refusal>) -> AddOutcome
     ensures { TellsAdded added result }
 {
-    let answer = add_refusal(added);
-    let told = tell(answer);
+    let told = tell_answer(&added);
     AddOutcome {
         refusal: told.refusal,
         record: told.record,
-        named: bytes_held(added),
+        named: added.unwrap_or(0),
     }
 }
 
@@ -538,33 +518,14 @@ pub struct TotalOutcome {
     pub total: u64,
 }
 
-fn total_refusal(told: Told) -> Result<(), Refusal>
-    ensures { result ≡ total_refusal told }
-{
-    match told {
-        Told::Refused(answer) => answer,
-        Told::Total(_) => Ok(()),
-    }
-}
-
-fn total_told(told: Told) -> u64
-    ensures { result ≡ total_told told }
-{
-    match told {
-        Told::Refused(_) => 0,
-        Told::Total(amount) => amount.0,
-    }
-}
-
-fn tell_total(total: Told) -> TotalOutcome
+fn tell_total(total: Result<Amount, Refusal>) -> TotalOutcome
     ensures { TellsTotal total result }
 {
-    let answer = total_refusal(total);
-    let told = tell(answer);
+    let told = tell_answer(&total);
     TotalOutcome {
         refusal: told.refusal,
         record: told.record,
-        total: total_told(total),
+        total: total.map_or(0, |amount| amount.0),
     }
 }
 
@@ -587,41 +548,30 @@ pub struct LimitOutcome {
     pub total: u64,
 }
 
-fn limit_refusal(limited: Limited) -> Result<(), Refusal>
-    ensures { result ≡ limit_refusal limited }
-{
-    match limited {
-        Limited::Refused(answer) => answer,
-        Limited::Within(_) => Ok(()),
-        Limited::Over(_) => Ok(()),
-    }
-}
-
-fn limit_number(limited: Limited) -> usize
+fn limit_number(limited: Result<Limited, Refusal>) -> usize
     ensures { result ≡ limit_number limited }
 {
     match limited {
-        Limited::Refused(_) => 0,
-        Limited::Within(_) => 1,
-        Limited::Over(_) => 2,
+        Err(_) => 0,
+        Ok(Limited::Within(_)) => 1,
+        Ok(Limited::Over(_)) => 2,
     }
 }
 
-fn limit_total(limited: Limited) -> u64
+fn limit_total(limited: Result<Limited, Refusal>) -> u64
     ensures { result ≡ limit_total limited }
 {
     match limited {
-        Limited::Refused(_) => 0,
-        Limited::Within(total) => total.0,
-        Limited::Over(total) => total.0,
+        Err(_) => 0,
+        Ok(Limited::Within(total)) => total.0,
+        Ok(Limited::Over(total)) => total.0,
     }
 }
 
-fn tell_limit(limited: Limited) -> LimitOutcome
+fn tell_limit(limited: Result<Limited, Refusal>) -> LimitOutcome
     ensures { TellsLimit limited result }
 {
-    let answer = limit_refusal(limited);
-    let told = tell(answer);
+    let told = tell_answer(&limited);
     LimitOutcome {
         refusal: told.refusal,
         record: told.record,

@@ -1,15 +1,13 @@
 -- What is said of a total, as numbers.
 -- Assumes nothing.
-use mathlib.Core.Path.{ap, ◌∙◌}
-use Rattle.account.specs.Answers.{number_of, record_of}
+use Rattle.std.proofs.Common.{rules}
 use Rattle.felgotany.proofs.tell_total.Goals as goal
 
 pub returns : goal.returns
 returns c =
-    let e = c.total_refusal-answer.ensures in
-    let t = c.tell-told.ensures in
+    let t = c.tell_answer-told.ensures in
     record {
-      refusal = t.refusal ∙ ap number_of e;
-      record_named = t.record_named ∙ ap record_of e;
-      total_is = c.total_told.ensures;
+      refusal = t.refusal;
+      record_named = t.record_named;
+      total_is = search rules;
     }

@@ -1,18 +1,17 @@
 -- What C is handed for an answer.
 -- Assumes nothing.
-use Rattle.std.specs.Prelude.{ℕ, ◌≡◌, List, length}
-use Rattle.account.specs.Answers.{number_of, record_of}
-use Rattle.account.specs.Answers.{Answer}
+use Rattle.std.specs.Prelude.{ℕ, ◌≡◌, List, length, Result}
+use Rattle.account.specs.Answers.{Answer, answer_of, number_of, record_of}
+use Rattle.account.specs.declared.answers.Refusal.{Refusal}
+use Rattle.formulas.specs.declared.amount.Amount.{Amount}
 use Rattle.account.specs.declared.noon.Place.{Place}
 use Rattle.account.specs.declared.noon.Verdict.{Verdict}
-use Rattle.lists.specs.Lists.{answer_in, verdict_number, step_named}
+use Rattle.lists.specs.Lists.{verdict_number, step_named}
 use Rattle.lists.specs.declared.JudgedPair.{JudgedPair}
 use Rattle.margin.specs.declared.lists.Judged.{Judged}
 use Rattle.questions.specs.declared.noon.Call.{Call}
-use Rattle.screen.specs.Screen.{add_refusal, bytes_held, total_refusal, total_told, limit_refusal, limit_number, limit_total}
-use Rattle.screen.specs.declared.Added.{Added}
+use Rattle.screen.specs.Screen.{bytes_held, total_told, limit_number, limit_total}
 use Rattle.screen.specs.declared.Limited.{Limited}
-use Rattle.screen.specs.declared.Told.{Told}
 use Rattle.felgotany.specs.declared.AddOutcome.{AddOutcome}
 use Rattle.tickets.specs.declared.ask.Asked.{Asked}
 use Rattle.writing.specs.Written.{writing_answer, bytes_for, after_writing}
@@ -47,9 +46,9 @@ pub record TellsPlace (p : Place) (r : PromptPlace) : Type 0 where
   pub records_are : r.records ≡ p.records
 
 -- what is said of a list of spreads
-pub record TellsList (j : Judged) (r : ListOutcome) : Type 0 where
-  pub refusal : r.refusal ≡ number_of (answer_in j)
-  pub record_named : r.record ≡ record_of (answer_in j)
+pub record TellsList (j : Result Judged Refusal) (r : ListOutcome) : Type 0 where
+  pub refusal : r.refusal ≡ number_of (answer_of j)
+  pub record_named : r.record ≡ record_of (answer_of j)
   pub verdict_is : r.verdict ≡ verdict_number j
   pub step_is : r.step ≡ step_named j
 
@@ -58,19 +57,19 @@ pub record TellsPairList (j : JudgedPair) (r : PairListOutcome) : Type 0 where
   pub list_is : TellsList j.judged r.list
 
 -- what the order screen is told
-pub record TellsAdded (a : Added) (r : AddOutcome) : Type 0 where
-  pub refusal : r.refusal ≡ number_of (add_refusal a)
-  pub record_named : r.record ≡ record_of (add_refusal a)
+pub record TellsAdded (a : Result ℕ Refusal) (r : AddOutcome) : Type 0 where
+  pub refusal : r.refusal ≡ number_of (answer_of a)
+  pub record_named : r.record ≡ record_of (answer_of a)
   pub named_are : r.named ≡ bytes_held a
 
-pub record TellsTotal (t : Told) (r : TotalOutcome) : Type 0 where
-  pub refusal : r.refusal ≡ number_of (total_refusal t)
-  pub record_named : r.record ≡ record_of (total_refusal t)
+pub record TellsTotal (t : Result Amount Refusal) (r : TotalOutcome) : Type 0 where
+  pub refusal : r.refusal ≡ number_of (answer_of t)
+  pub record_named : r.record ≡ record_of (answer_of t)
   pub total_is : r.total ≡ total_told t
 
-pub record TellsLimit (l : Limited) (r : LimitOutcome) : Type 0 where
-  pub refusal : r.refusal ≡ number_of (limit_refusal l)
-  pub record_named : r.record ≡ record_of (limit_refusal l)
+pub record TellsLimit (l : Result Limited Refusal) (r : LimitOutcome) : Type 0 where
+  pub refusal : r.refusal ≡ number_of (answer_of l)
+  pub record_named : r.record ≡ record_of (answer_of l)
   pub answer_is : r.answer ≡ limit_number l
   pub total_is : r.total ≡ limit_total l
 

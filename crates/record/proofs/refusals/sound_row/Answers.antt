@@ -11,11 +11,6 @@ use Rattle.record.proofs.Dispatch.{of_row, row_fields-outside}
 use Rattle.record.proofs.Sound.{but_for, sound-short, sound-whole}
 use Rattle.record.proofs.refusals.sound_row.Goals as goal
 
-pub returns-then-r-lt-RECORD_BYTES : goal.returns-then-r-lt-RECORD_BYTES
-returns-then-r-lt-RECORD_BYTES c =
-    let r = c.args.r.now in
-    ap (λ (b : Bool). b && (c.args.other || eqb (currency r) 0)) (sound-short 3 c.args.c r (lt-leb record_bytes (length r) c.if-r-lt-RECORD_BYTES.true))
-
 pub returns : goal.returns
 returns c =
     let r = c.args.r.now in

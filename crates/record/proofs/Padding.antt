@@ -8,7 +8,7 @@ use lib.ListN.{length, drop, length-append, length-drop, get_or-append, replicat
 use lib.Seq.{get_or-append_right, get_or-drop}
 use lib.Dec.{eqb, ltb}
 use native.Mathlib.Omega.{arith}
-use borrow.Author.Tests.{ltb-true, ltb-false, eqb-true, eqb-false}
+use borrow.Author.Tests.{ltb-true, ltb-false}
 use Rattle.record.specs.Bytes.{Record, byte_at, one, two, four, Width, Field, plain_at, number_in, record_bytes}
 use Rattle.record.specs.Layout.{fields_of}
 use Rattle.record.specs.Ranges.{beyond, outside_among, named, unused_byte, field_outside}

@@ -47,10 +47,7 @@ fn any_from_thirty_two(r: &[u8]) -> bool
     requires { record_bytes ≤ length r.now }
     ensures { result ≡ any (not_zero r.now) (count_from 32 64) }
 {
-    any_of_sixteen(r, 32)
-        | any_of_sixteen(r, 48)
-        | any_of_sixteen(r, 64)
-        | any_of_sixteen(r, 80)
+    any_of_sixteen(r, 32) | any_of_sixteen(r, 48) | any_of_sixteen(r, 64) | any_of_sixteen(r, 80)
 }
 
 // Bytes 10 to 95, which are those after the fields of a contract.

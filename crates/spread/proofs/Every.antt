@@ -8,6 +8,8 @@ use mathlib.Core.List.{List, [], ◌∷◌}
 use mathlib.Core.Path.{◌≡◌, refl, sym, ◌∙◌, ap}
 use lib.ListN.{length, get_or, drop, drop_of_length-le}
 use lib.Seq.{drop-cons, get_or-take, length-take-le}
+use Rattle.std.specs.Prelude.{◌↔◌, IsTrue}
+use Rattle.std.specs.List.{All}
 use Rattle.spread.specs.Accepted.{every, opens_from, open_of, prompt_places}
 use Rattle.spread.specs.Steps.{Open}
 use Rattle.spread.specs.declared.Delta.{Delta}
@@ -41,6 +43,20 @@ module _ {ℓ} {A : Type ℓ} where
   every_at p (x ∷ l) zero d e h = and_left (p x) (every p l) e
   every_at p (x ∷ l) (suc i) d e h = every_at p l i d (and_right (p x) (every p l) e) (omega arith)
 
+-- what an iterator says of all elements
+module _ {A : Type 0} (p : A → Bool) where
+  all_every : (l : List A) → All (λ (x : A). p x ≡ true) l → every p l ≡ true
+  all_every [] h = refl
+  all_every (x ∷ l) h = rw (h 0 x (omega arith)) (all_every l (λ k d g. h (suc k) d (omega arith)))
+
+  pub every_from_all : (l : List A) (b : Bool) → IsTrue b ↔ All (λ (x : A). p x ≡ true) l → b ≡ every p l
+  every_from_all l true h = sym (all_every l (h.0 refl))
+  every_from_all l false h = go (every p l) refl
+    where
+      go : (t : Bool) → every p l ≡ t → false ≡ t
+      go true e = h.1 (λ k d g. every_at p l k d e g)
+      go false e = refl
+
 -- the prompts by place
 
 pub opens_length : (ts : List ℕ) (ds : List Delta) (n : ℕ) → length ts ≡ n → length ds ≡ n → length (opens_from ts ds) ≡ n
@@ -66,3 +82,20 @@ pub open_at : (p : Prompts) (i : ℕ) (dt : ℕ) (dd : Delta) (do' : Open) → l
 open_at p i dt dd do' e f h g =
     get_or-take p.count (opens_from p.tier p.net) i do' g
     ∙ opens_at p.tier p.net i dt dd do' (omega arith) (omega arith)
+
+-- a test of each prompt by its place is one of all prompts
+pub prompts_all : (q : Open → Bool) (p : Prompts) (b : Bool) (dt : ℕ) (dd : Delta) → length p.tier ≡ prompt_places → length p.net ≡ prompt_places
+    → p.count ≤ prompt_places
+    → IsTrue b ↔ ((k : ℕ) → k < p.count → q (record { tier = get_or p.tier k dt; unused = (get_or p.net k dd).0 }) ≡ true)
+    → b ≡ every q (open_of p)
+prompts_all q p b dt dd e f h t = every_from_all q (open_of p) b (there, back)
+  where
+    long : length (open_of p) ≡ p.count
+    long = open_length p e f h
+
+    there : IsTrue b → All (λ (o : Open). q o ≡ true) (open_of p)
+    there s = λ k d g. let l = long in ap q (open_at p k dt dd d e f h (omega arith)) ∙ t.0 s k (omega arith)
+
+    back : All (λ (o : Open). q o ≡ true) (open_of p) → IsTrue b
+    back a =
+        t.1 (λ k g. let l = long in sym (ap q (open_at p k dt dd (record { tier = dt; unused = dd.0 }) e f h g)) ∙ a k (record { tier = dt; unused = dd.0 }) (omega arith))

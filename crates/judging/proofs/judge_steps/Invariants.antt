@@ -10,6 +10,3 @@ use Rattle.judging.proofs.judge_steps.Given as goal
 abbrev pub invariant-loop-step : goal.invariant-loop-step
 invariant-loop-step l = Judging l.n l.table l.numbers l.uses
     (judged_from 0 (steps_of l.table) (open_of l.initial.left) (told_of l.n l.numbers l.uses)) l.step l.at l.left
-
-abbrev pub decreases-loop-step : goal.decreases-loop-step
-decreases-loop-step l = length l.numbers - l.step

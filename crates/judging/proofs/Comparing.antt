@@ -1,18 +1,16 @@
 -- Numbers and uses that are sent, compared with those of a step.
 -- Assumes nothing.
-use Prim.Native.Nat.{ℕ, zero, suc, ◌≤◌, ◌<◌}
+use Prim.Native.Nat.{ℕ, suc, ◌≤◌, ◌<◌}
 use native.Mathlib.Omega.{arith}
 use mathlib.Core.Bool.{Bool, true, false, cond, not, ◌&&◌, ◌||◌}
-use mathlib.Core.List.{List, [], ◌∷◌}
-use mathlib.Core.Path.{◌≡◌, refl, sym, ap, ◌∙◌}
+use mathlib.Core.List.{List}
+use mathlib.Core.Path.{◌≡◌, refl, ap, ap₂, ◌∙◌}
 use lib.Dec.{ltb}
 use lib.IntN.{ℤ, pos, negsuc, nat_abs}
-use lib.ListN.{length, length-map, get_or, take}
-use lib.Seq.{get_or-take, length-take-le}
+use lib.ListN.{length, length-map, get_or, take, drop, drop_of_length-le}
+use lib.Seq.{drop-cons, get_or-take, length-take-le}
 use lib.Signed.{lt_z}
-use Rattle.std.specs.Prelude.{◌↔◌, IsTrue}
 use Rattle.exact.specs.Signed.{negative}
-use Rattle.spread.proofs.Both.{and_left, and_right}
 use Rattle.spread.specs.declared.Delta.{Delta}
 use Rattle.spread.proofs.Gathering.{no_delta}
 use Rattle.spread.proofs.Lent.{delta_at_lem}
@@ -30,18 +28,13 @@ pub less_is : (f : ℕ) (z : ℤ) → negative z || ltb (nat_abs z) f ≡ lt_z z
 less_is f (pos n) = refl
 less_is f (negsuc n) = refl
 
--- uses are alike exactly where each is level
-alike_all : (xs ys : List ℤ) → length ys ≡ length xs → ((k : ℕ) → k < length xs → level (get_or xs k (pos 0)) (get_or ys k (pos 0)) ≡ true) → alike xs ys ≡ true
-alike_all [] [] e h = refl
-alike_all [] (y ∷ ys) e h = absurd (omega arith)
-alike_all (x ∷ xs) [] e h = absurd (omega arith)
-alike_all (x ∷ xs) (y ∷ ys) e h = rw (h 0 (omega arith)) (alike_all xs ys (omega arith) (λ k g. h (suc k) (omega arith)))
+-- one use after the other: what is still to be compared decides
+alike_at : (xs ys : List ℤ) (i : ℕ) → i < length xs → length ys ≡ length xs
+    → alike (drop i xs) (drop i ys) ≡ level (get_or xs i (pos 0)) (get_or ys i (pos 0)) && alike (drop (suc i) xs) (drop (suc i) ys)
+alike_at xs ys i h e = ap₂ alike (drop-cons xs i (pos 0) h) (drop-cons ys i (pos 0) (omega arith))
 
-level_each : (xs ys : List ℤ) → length ys ≡ length xs → alike xs ys ≡ true → (k : ℕ) → k < length xs → level (get_or xs k (pos 0)) (get_or ys k (pos 0)) ≡ true
-level_each [] ys e h k g = absurd (omega arith)
-level_each (x ∷ xs) [] e h k g = absurd (omega arith)
-level_each (x ∷ xs) (y ∷ ys) e h zero g = and_left (level x y) (alike xs ys) h
-level_each (x ∷ xs) (y ∷ ys) e h (suc k) g = level_each xs ys (omega arith) (and_right (level x y) (alike xs ys) h) k (omega arith)
+alike_end : (xs ys : List ℤ) (i : ℕ) → length xs ≤ i → length ys ≡ length xs → alike (drop i xs) (drop i ys) ≡ true
+alike_end xs ys i h e = ap₂ alike (drop_of_length-le xs {i = i} h) (drop_of_length-le ys {i = i} (omega arith))
 
 -- the same of uses that are sent and deltas that a step takes, of which there are enough
 module _ (uses : List ℤ) (taken : List Delta) (few : length uses ≤ length taken) where
@@ -51,18 +44,15 @@ module _ (uses : List ℤ) (taken : List Delta) (few : length uses ≤ length ta
   long : length right ≡ length uses
   long = length-take-le (length uses) (deltas_in taken) (let e = length-map taken (λ (d : Delta). d.0) in omega arith)
 
-  at : (k : ℕ) → k < length uses → get_or right k (pos 0) ≡ (get_or taken k no_delta).0
-  at k h = get_or-take (length uses) (deltas_in taken) k (pos 0) h ∙ delta_at_lem taken k
+  pub uses_at : (i : ℕ) → i < length uses
+      → alike (drop i uses) (drop i right) ≡ level (get_or uses i (pos 0)) (get_or taken i no_delta).0 && alike (drop (suc i) uses) (drop (suc i) right)
+  uses_at i h =
+      alike_at uses right i h long
+      ∙ ap (λ (z : ℤ). level (get_or uses i (pos 0)) z && alike (drop (suc i) uses) (drop (suc i) right))
+      (get_or-take (length uses) (deltas_in taken) i (pos 0) h ∙ delta_at_lem taken i)
 
-  pub uses_alike : (b : Bool)
-      → IsTrue b ↔ ((k : ℕ) → k < length uses → level (get_or uses k (pos 0)) (get_or taken k no_delta).0 ≡ true)
-      → b ≡ alike uses (take (length uses) (deltas_in taken))
-  uses_alike true h = sym (alike_all uses right long (λ k g. ap (λ (z : ℤ). level (get_or uses k (pos 0)) z) (at k g) ∙ h.0 refl k g))
-  uses_alike false h = go (alike uses right) refl
-    where
-      go : (t : Bool) → alike uses right ≡ t → false ≡ t
-      go true e = h.1 (λ k g. sym (ap (λ (z : ℤ). level (get_or uses k (pos 0)) z) (at k g)) ∙ level_each uses right long e k g)
-      go false e = refl
+  pub uses_end : (i : ℕ) → length uses ≤ i → alike (drop i uses) (drop i right) ≡ true
+  uses_end i h = alike_end uses right i h long
 
 -- the cases of a verdict
 module _ (step most : ℕ) (z : ℤ) (rest : Verdict) where

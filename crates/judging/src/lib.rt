@@ -55,7 +55,12 @@ fn same_uses(uses: &[i64], taken: [Delta; MOST_PROMPTS]) -> bool
     requires { length uses.now ≤ prompt_places }
     ensures { result ≡ alike uses.now (take (length uses.now) (deltas_in taken)) }
 {
-    (0..uses.len()).all(|k| same_use(uses[k], taken[k]))
+    for (k, sent) in uses.iter().enumerate() {
+        if !same_use(*sent, taken[k]) {
+            return false;
+        }
+    }
+    true
 }
 
 fn verdict_of(step: usize, formed: u64, number: i64, alike: bool) -> Verdict

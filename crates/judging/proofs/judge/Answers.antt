@@ -53,9 +53,9 @@ judge_steps-requires c =
       ),
     )
 
-pub returns : goal.returns
-returns c =
-    let at = goal.at.returns c in
+pub returns-else-not-same_counts : goal.returns-else-not-same_counts
+returns-else-not-same_counts c =
+    let at = goal.at.returns-else-not-same_counts c in
     let a = c.args in
     let e = sym c.same_counts.ensures ∙ c.if-not-same_counts.false in
     c.judge_steps.ensures

@@ -138,11 +138,11 @@ fn same_counts(spreads: usize, prompts: usize, sent: usize, numbers: usize, uses
 pub fn judge(prompts: Prompts, table: Table, sent: usize, numbers: &[i64], uses: &[i64]) -> Verdict
     ensures { result ≡ judged prompts table sent numbers.now uses.now }
 {
-    if !accepted(prompts, table) {
-        Verdict::OtherCounts
-    } else if !same_counts(table.count, prompts.count, sent, numbers.len(), uses.len()) {
-        Verdict::OtherCounts
-    } else {
+    if accepted(prompts, table)
+        && same_counts(table.count, prompts.count, sent, numbers.len(), uses.len())
+    {
         judge_steps(prompts, table, numbers, uses)
+    } else {
+        Verdict::OtherCounts
     }
 }

@@ -1,7 +1,5 @@
 -- `judge_steps`: one step after the other; what is still to be judged decides.
 -- Assumes nothing.
-use Prim.Native.Nat.{◌-◌}
-use lib.ListN.{length}
 use Rattle.spread.specs.Accepted.{open_of, steps_of}
 use Rattle.judging.specs.Judged.{told_of, judged_from}
 use Rattle.judging.proofs.Walking.{Judging}

@@ -3,7 +3,7 @@ use mathlib.Core.Path.{◌≡◌, refl, sym, ap, ◌∙◌}
 use Prim.Native.Nat.{ℕ, suc, ◌≤◌}
 use native.Mathlib.Numerals.{add-one}
 use native.Mathlib.Omega.{arith}
-use lib.IntN.{ℤ, pos}
+use lib.IntN.{pos}
 use lib.ListN.{length, get_or, take, drop}
 use borrow.Author.Rules.{rules}
 use Rattle.spread.proofs.Gathering.{no_delta}
@@ -33,10 +33,10 @@ loop-k-preserved c =
     let ds = c.args.taken in
     let e : level (get_or us l.k (pos 0)) (get_or ds l.k no_delta).0 ≡ true = search rules in
     let few : length us ≤ length ds = omega arith in
-      ap (λ (k : ℕ). alike (drop k us) (drop k (take (length us) (deltas_in ds)))) (add-one l.k)
-          ∙ sym
-          (sym l.invariant ∙ uses_at us ds few l.k c.loop-k-test.true
-          ∙ ap (λ (b : Bool). b && alike (drop (suc l.k) us) (drop (suc l.k) (take (length us) (deltas_in ds)))) e)
+    ap (λ (k : ℕ). alike (drop k us) (drop k (take (length us) (deltas_in ds)))) (add-one l.k)
+    ∙ sym
+    (sym l.invariant ∙ uses_at us ds few l.k c.loop-k-test.true
+    ∙ ap (λ (b : Bool). b && alike (drop (suc l.k) us) (drop (suc l.k) (take (length us) (deltas_in ds)))) e)
 
 pub returns : goal.returns
 returns c =

@@ -4,8 +4,6 @@ ghost use Rattle.std.specs.Int.Signed.{lt_z};
 ghost use Rattle.exact.specs.Signed.{larger};
 ghost use Rattle.exact.specs.Largest.{IsLargest};
 
-use crate::signed::below;
-
 // A total and its number, counted from 1.
 #[derive(Clone, Copy)]
 pub struct NumberedTotal {
@@ -18,13 +16,10 @@ fn or_earlier(best: NumberedTotal, value: i64, number: usize) -> NumberedTotal
     ensures value { result.value ≡ larger value best.value }
     ensures number { result.number ≡ cond (lt_z value best.value) best.number number }
 {
-    let value_of_best = best.value;
-    if below(value, value_of_best) {
-        return best;
-    }
-    NumberedTotal {
-        value: value,
-        number: number,
+    if value < best.value {
+        best
+    } else {
+        NumberedTotal { value, number }
     }
 }
 
@@ -36,11 +31,8 @@ pub fn largest(totals: [i64; 16]) -> NumberedTotal
         value: totals[15],
         number: 16,
     };
-    let mut i: usize = 15;
-    while 0 < i {
-        i -= 1;
-        let earlier = or_earlier(best, totals[i], i + 1);
-        best = earlier;
+    for i in (0..15).rev() {
+        best = or_earlier(best, totals[i], i + 1);
     }
     best
 }

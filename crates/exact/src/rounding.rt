@@ -2,7 +2,7 @@
 ghost use Rattle.std.specs.Prelude.{◌≡◌, ◌*◌, ◌^◌, ◌<◌, nat_abs};
 ghost use Rattle.exact.specs.Rounding.{half_up, half_up_to, half_away, half_away_to};
 
-use crate::signed::{magnitude, with_sign_of};
+use crate::signed::with_sign_of;
 
 // n / d rounded once, a half going to the number above; 0 where d is 0.
 pub fn half_up(n: u64, d: u64) -> u64
@@ -21,9 +21,10 @@ pub fn half_up_to(n: u64, d: u64, unit: u64) -> u64
     ensures { result ≡ half_up_to n d unit }
 {
     if unit == 1 {
-        return half_up(n, d);
+        half_up(n, d)
+    } else {
+        half_up(n, d * unit) * unit
     }
-    half_up(n, d * unit) * unit
 }
 
 // z × m / d rounded once, halves away from zero. The product is never formed whole: each d in the size of z gives m, and only
@@ -32,7 +33,7 @@ pub fn half_away(z: i64, m: u64, d: u64) -> i64
     requires { (0 < d) × ((d * m < 2 ^ 64) × (half_up (nat_abs z * m) d < 2 ^ 63)) }
     ensures { result ≡ half_away z m d }
 {
-    let size = magnitude(z);
+    let size = z.unsigned_abs();
     with_sign_of(z, size / d * m + half_up(size % d * m, d))
 }
 
@@ -42,7 +43,8 @@ pub fn half_away_to(z: i64, unit: u64) -> i64
     ensures { result ≡ half_away_to z unit }
 {
     if unit == 1 {
-        return z;
+        z
+    } else {
+        with_sign_of(z, half_up_to(z.unsigned_abs(), 1, unit))
     }
-    with_sign_of(z, half_up_to(magnitude(z), 1, unit))
 }

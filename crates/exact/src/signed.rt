@@ -59,18 +59,14 @@ pub fn as_natural(z: i64) -> u64
 pub fn or_zero(z: i64) -> u64
     ensures { result ≡ or_zero z }
 {
-    if is_negative(z) { 0 } else { z as u64 }
+    if z < 0 { 0 } else { z as u64 }
 }
 
 // The size of z, its sign dropped.
 pub fn magnitude(z: i64) -> u64
     ensures { result ≡ nat_abs z }
 {
-    if is_negative(z) {
-        or_zero(minus(-1, z)) + 1
-    } else {
-        or_zero(z)
-    }
+    z.unsigned_abs()
 }
 
 // The size m with the sign of z.
@@ -78,23 +74,20 @@ pub fn with_sign_of(z: i64, m: u64) -> i64
     requires { m < 2 ^ 63 }
     ensures { result ≡ with_sign_of z m }
 {
-    if is_negative(z) {
-        minus(0, as_signed(m))
-    } else {
-        as_signed(m)
-    }
+    let size = m as i64;
+    if z < 0 { -size } else { size }
 }
 
 // What is left of z when an amount is taken from its size: it never crosses zero.
 pub fn towards_zero(z: i64, amount: u64) -> i64
     ensures { result ≡ towards_zero z amount }
 {
-    let size = magnitude(z);
+    let size = z.unsigned_abs();
     if size <= amount {
-        return 0;
+        0
+    } else if amount == 0 {
+        z
+    } else {
+        with_sign_of(z, size - amount)
     }
-    if amount == 0 {
-        return z;
-    }
-    with_sign_of(z, size - amount)
 }

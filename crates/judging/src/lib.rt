@@ -9,7 +9,6 @@ ghost use Rattle.judging.specs.Judged.{level, alike, told_of, verdict_of, judged
 ghost use Rattle.spread.specs.code.Lent.{deltas_in};
 ghost use Rattle.judging.specs.code.Compared.{is_right, ComparedTo};
 
-use exact::signed::{below, is_negative, magnitude};
 use spread::accepted::accepted;
 use spread::stepwise::step_over;
 use spread::{Delta, MOST_PROMPTS, Prompts, Spread, Table};
@@ -35,20 +34,20 @@ struct Compared {
 fn is_more(formed: u64, number: i64) -> bool
     ensures { result ≡ lt_z (pos formed) number }
 {
-    !is_negative(number) & (formed < magnitude(number))
+    (0 <= number) & (formed < number.unsigned_abs())
 }
 
 // "or less"
 fn is_less(formed: u64, number: i64) -> bool
     ensures { result ≡ lt_z number (pos formed) }
 {
-    is_negative(number) | (magnitude(number) < formed)
+    (number < 0) | (number.unsigned_abs() < formed)
 }
 
 fn same_use(sent: i64, taken: Delta) -> bool
     ensures { result ≡ level sent taken.0 }
 {
-    !below(sent, taken.0) & !below(taken.0, sent)
+    sent == taken.0
 }
 
 // Whether the uses sent for a step are those that it makes.
@@ -56,12 +55,10 @@ fn same_uses(uses: &[i64], taken: [Delta; MOST_PROMPTS]) -> bool
     requires { length uses.now ≤ prompt_places }
     ensures { result ≡ alike uses.now (take (length uses.now) (deltas_in taken)) }
 {
-    let mut i = 0;
-    while i < uses.len() {
-        if !same_use(uses[i], taken[i]) {
+    for (k, sent) in uses.iter().enumerate() {
+        if !same_use(*sent, taken[k]) {
             return false;
         }
-        i += 1;
     }
     true
 }
@@ -70,12 +67,10 @@ fn verdict_of(step: usize, formed: u64, number: i64, alike: bool) -> Verdict
     ensures { result ≡ verdict_of step formed number alike Verdict.Right }
 {
     if is_more(formed, number) {
-        return Verdict::MoreThanFormed(step);
-    }
-    if is_less(formed, number) {
-        return Verdict::LessThanFormed(step);
-    }
-    if alike {
+        Verdict::MoreThanFormed(step)
+    } else if is_less(formed, number) {
+        Verdict::LessThanFormed(step)
+    } else if alike {
         Verdict::Right
     } else {
         Verdict::WrongUse(step)
@@ -95,23 +90,17 @@ fn compare(
     ensures { ComparedTo prompts spread second step number uses.now result }
 {
     let taking = step_over(prompts, spread, second);
-    let taken = taking.taken;
-    let formed = taking.number;
-    let left = taking.left;
-    let verdict = verdict_of(step, formed.0, number, same_uses(uses, taken));
-    Compared { verdict, left }
+    let alike = same_uses(uses, taking.taken);
+    Compared {
+        verdict: verdict_of(step, taking.number.0, number, alike),
+        left: taking.left,
+    }
 }
 
 fn is_right(verdict: Verdict) -> bool
     ensures { result ≡ is_right verdict }
 {
-    match verdict {
-        Verdict::Right => true,
-        Verdict::MoreThanFormed(_) => false,
-        Verdict::LessThanFormed(_) => false,
-        Verdict::WrongUse(_) => false,
-        Verdict::OtherCounts => false,
-    }
+    matches!(verdict, Verdict::Right)
 }
 
 // One step after the other, till one is wrong.
@@ -122,18 +111,15 @@ fn judge_steps(prompts: Prompts, table: Table, numbers: &[i64], uses: &[i64]) ->
     let n = prompts.count;
     let mut left = prompts;
     let mut at = 0;
-    let mut step = 0;
-    while step < numbers.len() {
+    for (step, number) in numbers.iter().enumerate() {
         let spread = table.spread[step / 2];
         let second = step % 2 == 1;
-        let compared = compare(left, spread, second, step, numbers[step], &uses[at..at + n]);
-        let verdict = compared.verdict;
-        if !is_right(verdict) {
-            return verdict;
+        let compared = compare(left, spread, second, step, *number, &uses[at..at + n]);
+        if !is_right(compared.verdict) {
+            return compared.verdict;
         }
         left = compared.left;
         at += n;
-        step += 1;
     }
     Verdict::Right
 }
@@ -143,7 +129,7 @@ fn same_counts(spreads: usize, prompts: usize, sent: usize, numbers: usize, uses
     requires { (spreads ≤ spread_places) × (prompts ≤ prompt_places) }
     ensures { result ≡ eqb numbers (2 * spreads) && (eqb sent prompts && eqb uses (2 * spreads * prompts)) }
 {
-    (numbers == 2 * spreads) & ((sent == prompts) & (uses == 2 * spreads * prompts))
+    numbers == 2 * spreads && sent == prompts && uses == 2 * spreads * prompts
 }
 
 // What is said of a list of spreads over these prompts and this table: a number for each step in `numbers`, of each spread its
@@ -152,11 +138,11 @@ fn same_counts(spreads: usize, prompts: usize, sent: usize, numbers: usize, uses
 pub fn judge(prompts: Prompts, table: Table, sent: usize, numbers: &[i64], uses: &[i64]) -> Verdict
     ensures { result ≡ judged prompts table sent numbers.now uses.now }
 {
-    if !accepted(prompts, table) {
-        return Verdict::OtherCounts;
+    if accepted(prompts, table)
+        && same_counts(table.count, prompts.count, sent, numbers.len(), uses.len())
+    {
+        judge_steps(prompts, table, numbers, uses)
+    } else {
+        Verdict::OtherCounts
     }
-    if !same_counts(table.count, prompts.count, sent, numbers.len(), uses.len()) {
-        return Verdict::OtherCounts;
-    }
-    judge_steps(prompts, table, numbers, uses)
 }

@@ -13,7 +13,7 @@ use Rattle.record.specs.Ranges.{unused_beside, outside_among, unused_byte, field
 use Rattle.record.proofs.Within.{both_true, neither}
 
 -- one test more among those that a record must not meet
-pub but_for : (b u h l m : Bool) → b && not (u || ((h || not m) || l)) ≡ (b && not (u || (h || l))) && m
+pub but_for : (b u h l m : Bool) → b && not ((u || (h || not m)) || l) ≡ (b && not (u || (h || l))) && m
 but_for false u h l m = refl
 but_for true true h l m = refl
 but_for true false true l m = refl

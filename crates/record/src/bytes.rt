@@ -4,16 +4,10 @@ ghost use Rattle.record.specs.Bytes.{byte_at, u16_at, u32_at, i32_at, twos_compl
 
 pub const RECORD_BYTES: usize = 96;
 
-fn wide(x: u8) -> usize
-    ensures { (result ≡ x) × (result < 256) }
-{
-    x as usize
-}
-
 pub(crate) fn byte_at(r: &[u8], o: usize) -> usize
     ensures { (result ≡ byte_at r.now o) × (result < 256) }
 {
-    if o < r.len() { wide(r[o]) } else { 0 }
+    if o < r.len() { usize::from(r[o]) } else { 0 }
 }
 
 pub(crate) fn u16_at(r: &[u8], o: usize) -> usize
@@ -30,13 +24,12 @@ pub(crate) fn u16_at(r: &[u8], o: usize) -> usize
 pub(crate) fn u32_at(r: &[u8], o: usize) -> usize
     ensures { (result ≡ u32_at r.now o) × (result < 4294967296) }
 {
-    if o < r.len() {
-        if 3 < r.len() - o {
-            return u32_in(r, o);
-        }
-        u16_at(r, o) + 65536 * u16_at(r, o + 2)
-    } else {
+    if r.len() <= o {
         0
+    } else if 3 < r.len() - o {
+        u32_in(r, o)
+    } else {
+        u16_at(r, o) + 65536 * u16_at(r, o + 2)
     }
 }
 
@@ -45,7 +38,7 @@ pub(crate) fn byte_in(r: &[u8], o: usize) -> usize
     requires { o < length r.now }
     ensures { (result ≡ byte_at r.now o) × (result < 256) }
 {
-    wide(r[o])
+    usize::from(r[o])
 }
 
 pub(crate) fn u16_in(r: &[u8], o: usize) -> usize

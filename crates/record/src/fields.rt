@@ -112,10 +112,7 @@ pub fn value(r: &[u8]) -> usize
 pub fn loss(r: &[u8], scenario: usize) -> i64
     ensures { result ≡ Layout.loss r.now scenario }
 {
-    if scenario < 1 {
-        return i32_at(r, layout::FIRST_LOSS);
-    }
-    let later = scenario - 1;
+    let later = scenario.saturating_sub(1);
     if r.len() / 4 < later {
         0
     } else {

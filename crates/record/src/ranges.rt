@@ -14,7 +14,7 @@ use crate::layout;
 fn beyond(x: usize, low: usize, high: usize) -> bool
     ensures { result ≡ Ranges.beyond (plain low high) x }
 {
-    !((low <= x) & (x <= high))
+    (x < low) | (high < x)
 }
 
 // Of 32 bits in two's complement: below -low or above high.
@@ -22,7 +22,7 @@ fn signed_beyond(x: usize, low: usize, high: usize) -> bool
     requires { (x < 4294967296) × ((low ≤ 2147483648) × (high < 2147483648)) }
     ensures { result ≡ Ranges.beyond (signed (neg_ℤ (pos low)) (pos high)) x }
 {
-    !((x <= high) | (4294967296 - low <= x))
+    (high < x) & (x < 4294967296 - low)
 }
 
 fn contract_beyond(x: usize) -> bool
@@ -68,8 +68,8 @@ pub(crate) fn contract_outside(r: &[u8]) -> bool
     ensures { result ≡ outside_among contract_fields r.now }
 {
     contract_beyond(byte_in(r, layout::CONTRACT))
-        | (rate_beyond(u32_in(r, layout::SHORT_OPTION_RATE))
-            | beyond(u16_in(r, layout::UNIT), 0, 1000))
+        | rate_beyond(u32_in(r, layout::SHORT_OPTION_RATE))
+        | beyond(u16_in(r, layout::UNIT), 0, 1000)
 }
 
 pub(crate) fn prompt_outside(r: &[u8]) -> bool
@@ -77,10 +77,10 @@ pub(crate) fn prompt_outside(r: &[u8]) -> bool
     ensures { result ≡ outside_among prompt_fields r.now }
 {
     contract_beyond(byte_in(r, layout::CONTRACT))
-        | (tier_beyond(byte_in(r, layout::TIER))
-            | (day_beyond(u32_in(r, layout::DAY))
-                | (rate_beyond(u32_in(r, layout::SPREAD_RATE))
-                    | rate_beyond(u32_in(r, layout::OUTRIGHT_RATE)))))
+        | tier_beyond(byte_in(r, layout::TIER))
+        | day_beyond(u32_in(r, layout::DAY))
+        | rate_beyond(u32_in(r, layout::SPREAD_RATE))
+        | rate_beyond(u32_in(r, layout::OUTRIGHT_RATE))
 }
 
 // A strike of 0 for a forward, any other otherwise.
@@ -113,10 +113,8 @@ pub(crate) fn losses_beyond(r: &[u8]) -> bool
     ensures { result ≡ outside_among (map loss_field (count_from 1 scenario_count)) r.now }
 {
     let mut outside = false;
-    let mut k = 0;
-    while k < SCENARIOS {
-        outside = outside | too_many(u32_in(r, layout::FIRST_LOSS + 4 * k));
-        k += 1;
+    for k in 0..SCENARIOS {
+        outside |= too_many(u32_in(r, layout::FIRST_LOSS + 4 * k));
     }
     outside
 }
@@ -141,12 +139,13 @@ pub(crate) fn row_head_outside(r: &[u8], other: bool) -> bool
     ensures { result ≡ outside_among (row_head r.now) r.now || not (other || eqb (currency r.now) 0) }
 {
     contract_beyond(byte_in(r, layout::CONTRACT))
-        | (beyond(byte_in(r, layout::ROW_TYPE), 0, 2)
-            | (currency_beyond(r, other)
-                | (day_beyond(u32_in(r, layout::DAY))
-                    | (strike_beyond(r)
-                        | (too_many(u32_in(r, layout::LOTS))
-                            | (delta_beyond(r) | beyond(u32_in(r, layout::VALUE), 1, 10000)))))))
+        | beyond(byte_in(r, layout::ROW_TYPE), 0, 2)
+        | currency_beyond(r, other)
+        | day_beyond(u32_in(r, layout::DAY))
+        | strike_beyond(r)
+        | too_many(u32_in(r, layout::LOTS))
+        | delta_beyond(r)
+        | beyond(u32_in(r, layout::VALUE), 1, 10000)
 }
 
 fn leg_beyond(r: &[u8], leg: usize) -> bool
@@ -154,8 +153,8 @@ fn leg_beyond(r: &[u8], leg: usize) -> bool
     ensures { result ≡ outside_among (leg_fields leg) r.now }
 {
     tier_beyond(byte_in(r, layout::LEG_TIER + 4 * leg))
-        | (beyond(byte_in(r, layout::LEG_SIDE + 4 * leg), 1, 2)
-            | ratio_beyond(u16_in(r, layout::LEG_RATIO + 4 * leg)))
+        | beyond(byte_in(r, layout::LEG_SIDE + 4 * leg), 1, 2)
+        | ratio_beyond(u16_in(r, layout::LEG_RATIO + 4 * leg))
 }
 
 // The third leg, where there is one.
@@ -175,9 +174,11 @@ pub(crate) fn spread_outside(r: &[u8]) -> bool
     ensures { result ≡ outside_among (spread_fields r.now) r.now }
 {
     contract_beyond(byte_in(r, layout::CONTRACT))
-        | (beyond(byte_in(r, layout::LEG_COUNT), 2, 3)
-            | (rate_beyond(u32_in(r, layout::RATE_PER_SPREAD))
-                | (leg_beyond(r, 0) | (leg_beyond(r, 1) | third_leg_beyond(r)))))
+        | beyond(byte_in(r, layout::LEG_COUNT), 2, 3)
+        | rate_beyond(u32_in(r, layout::RATE_PER_SPREAD))
+        | leg_beyond(r, 0)
+        | leg_beyond(r, 1)
+        | third_leg_beyond(r)
 }
 
 // A ratio of an intercontract spread.
@@ -197,11 +198,11 @@ pub(crate) fn entry_outside(r: &[u8]) -> bool
 {
     let in_tenths = byte_in(r, layout::TENTHS) == 1;
     contract_beyond(byte_in(r, layout::CONTRACT))
-        | (contract_beyond(byte_in(r, layout::SECOND_CONTRACT))
-            | (beyond(byte_in(r, layout::PERCENT), 0, 100)
-                | (entry_ratio_beyond(u16_in(r, layout::FIRST_RATIO), in_tenths)
-                    | (entry_ratio_beyond(u16_in(r, layout::SECOND_RATIO), in_tenths)
-                        | beyond(byte_in(r, layout::TENTHS), 0, 1)))))
+        | contract_beyond(byte_in(r, layout::SECOND_CONTRACT))
+        | beyond(byte_in(r, layout::PERCENT), 0, 100)
+        | entry_ratio_beyond(u16_in(r, layout::FIRST_RATIO), in_tenths)
+        | entry_ratio_beyond(u16_in(r, layout::SECOND_RATIO), in_tenths)
+        | beyond(byte_in(r, layout::TENTHS), 0, 1)
 }
 
 pub(crate) fn rate_outside(r: &[u8]) -> bool
@@ -209,6 +210,6 @@ pub(crate) fn rate_outside(r: &[u8]) -> bool
     ensures { result ≡ outside_among rate_fields r.now }
 {
     beyond(byte_in(r, layout::RATE_CURRENCY), 1, 7)
-        | (beyond(u32_in(r, layout::SPOT_RATE), 1, 100000000)
-            | beyond(byte_in(r, layout::ADJUSTMENT), 0, 50))
+        | beyond(u32_in(r, layout::SPOT_RATE), 1, 100000000)
+        | beyond(byte_in(r, layout::ADJUSTMENT), 0, 50)
 }

@@ -12,8 +12,7 @@ use crate::{layout, ranges, unused};
 pub fn unknown_kind(r: &[u8]) -> bool
     ensures { result ≡ unknown_kind r.now }
 {
-    let k = kind(r);
-    !((1 <= k) & (k <= 6))
+    !matches!(kind(r), 1..=6)
 }
 
 // The bytes of a shorter record, and zeros.
@@ -22,11 +21,7 @@ fn padded(r: &[u8]) -> [u8; RECORD_BYTES]
     ensures { (length result ≡ record_bytes) × ((o : ℕ) → byte_at result o ≡ byte_at r.now o) }
 {
     let mut whole = [0u8; RECORD_BYTES];
-    let mut i = 0;
-    while i < r.len() {
-        whole[i] = r[i];
-        i += 1;
-    }
+    whole[..r.len()].copy_from_slice(r);
     whole
 }
 
@@ -34,26 +29,15 @@ fn whole_unused_byte(r: &[u8]) -> bool
     requires { record_bytes ≤ length r.now }
     ensures { result ≡ unused_byte r.now }
 {
-    let k = byte_in(r, layout::KIND);
-    if k == 1 {
-        return unused::beside_contract(r);
+    match byte_in(r, layout::KIND) {
+        1 => unused::beside_contract(r),
+        2 => unused::beside_prompt(r),
+        3 => unused::beside_row(r),
+        4 => unused::beside_spread(r),
+        5 => unused::beside_entry(r),
+        6 => unused::beside_rate(r),
+        _ => unused::beside_none(r),
     }
-    if k == 2 {
-        return unused::beside_prompt(r);
-    }
-    if k == 3 {
-        return unused::beside_row(r);
-    }
-    if k == 4 {
-        return unused::beside_spread(r);
-    }
-    if k == 5 {
-        return unused::beside_entry(r);
-    }
-    if k == 6 {
-        return unused::beside_rate(r);
-    }
-    unused::beside_none(r)
 }
 
 // 5: an unused byte is not zero. Of an unknown kind every byte is unused.
@@ -61,35 +45,25 @@ pub fn unused_byte(r: &[u8]) -> bool
     ensures { result ≡ unused_byte r.now }
 {
     if RECORD_BYTES <= r.len() {
-        return whole_unused_byte(r);
+        whole_unused_byte(r)
+    } else {
+        whole_unused_byte(&padded(r))
     }
-    whole_unused_byte(&padded(r))
 }
 
 fn whole_field_outside(r: &[u8]) -> bool
     requires { record_bytes ≤ length r.now }
     ensures { result ≡ field_outside r.now }
 {
-    let k = byte_in(r, layout::KIND);
-    if k == 1 {
-        return ranges::contract_outside(r);
+    match byte_in(r, layout::KIND) {
+        1 => ranges::contract_outside(r),
+        2 => ranges::prompt_outside(r),
+        3 => ranges::row_head_outside(r, true) | ranges::losses_beyond(r),
+        4 => ranges::spread_outside(r),
+        5 => ranges::entry_outside(r),
+        6 => ranges::rate_outside(r),
+        _ => false,
     }
-    if k == 2 {
-        return ranges::prompt_outside(r);
-    }
-    if k == 3 {
-        return ranges::row_head_outside(r, true) | ranges::losses_beyond(r);
-    }
-    if k == 4 {
-        return ranges::spread_outside(r);
-    }
-    if k == 5 {
-        return ranges::entry_outside(r);
-    }
-    if k == 6 {
-        return ranges::rate_outside(r);
-    }
-    false
 }
 
 // 6: a field outside its range.
@@ -97,9 +71,10 @@ pub fn field_outside(r: &[u8]) -> bool
     ensures { result ≡ field_outside r.now }
 {
     if RECORD_BYTES <= r.len() {
-        return whole_field_outside(r);
+        whole_field_outside(r)
+    } else {
+        whole_field_outside(&padded(r))
     }
-    whole_field_outside(&padded(r))
 }
 
 // Whether a whole record is of a kind and a contract.
@@ -140,23 +115,17 @@ pub fn sound_row(r: &[u8], c: usize, other: bool) -> bool
         return false;
     }
     is_of(r, 3, c)
-        & !(unused::beside_row(r) | (ranges::row_head_outside(r, other) | ranges::losses_beyond(r)))
+        & !(unused::beside_row(r) | ranges::row_head_outside(r, other) | ranges::losses_beyond(r))
 }
 
 // The tests end as soon as one fails: the record after a run of spreads is of another contract or kind.
 pub fn sound_spread(r: &[u8], c: usize) -> bool
     ensures { result ≡ sound_record 4 c r.now }
 {
-    if r.len() < RECORD_BYTES {
-        return false;
-    }
-    if !is_of(r, 4, c) {
-        return false;
-    }
-    if unused::beside_spread(r) {
-        return false;
-    }
-    !ranges::spread_outside(r)
+    RECORD_BYTES <= r.len()
+        && is_of(r, 4, c)
+        && !unused::beside_spread(r)
+        && !ranges::spread_outside(r)
 }
 
 // An intercontract spread, of any contract.

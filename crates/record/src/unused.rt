@@ -21,10 +21,8 @@ fn set_between(r: &[u8], o: usize, end: usize) -> bool
     ensures { result ≡ any (not_zero r.now) (count_from o (end - o)) }
 {
     let mut set = false;
-    let mut i = o;
-    while i < end {
-        set = set | (r[i] != 0);
-        i += 1;
+    for i in o..end {
+        set |= r[i] != 0;
     }
     set
 }
@@ -41,7 +39,7 @@ fn any_of_sixteen(r: &[u8], o: usize) -> bool
     requires { o + 15 < length r.now }
     ensures { result ≡ any (not_zero r.now) (count_from o 16) }
 {
-    any_of_four(r, o) | (any_of_four(r, o + 4) | (any_of_four(r, o + 8) | any_of_four(r, o + 12)))
+    any_of_four(r, o) | any_of_four(r, o + 4) | any_of_four(r, o + 8) | any_of_four(r, o + 12)
 }
 
 // Bytes 32 to 95. Here and below there is no loop, so that many bytes are tested at once.
@@ -49,8 +47,7 @@ fn any_from_thirty_two(r: &[u8]) -> bool
     requires { record_bytes ≤ length r.now }
     ensures { result ≡ any (not_zero r.now) (count_from 32 64) }
 {
-    any_of_sixteen(r, 32)
-        | (any_of_sixteen(r, 48) | (any_of_sixteen(r, 64) | any_of_sixteen(r, 80)))
+    any_of_sixteen(r, 32) | any_of_sixteen(r, 48) | any_of_sixteen(r, 64) | any_of_sixteen(r, 80)
 }
 
 // Bytes 10 to 95, which are those after the fields of a contract.
@@ -59,22 +56,24 @@ fn any_from_ten(r: &[u8]) -> bool
     ensures { result ≡ any (not_zero r.now) (count_from 10 86) }
 {
     is_set(r, layout::CONTRACT_END)
-        | (is_set(r, layout::CONTRACT_END + 1)
-            | (any_of_four(r, 12) | (any_of_sixteen(r, 16) | any_from_thirty_two(r))))
+        | is_set(r, layout::CONTRACT_END + 1)
+        | any_of_four(r, 12)
+        | any_of_sixteen(r, 16)
+        | any_from_thirty_two(r)
 }
 
 pub(crate) fn beside_contract(r: &[u8]) -> bool
     requires { record_bytes ≤ length r.now }
     ensures { result ≡ unused_beside contract_fields r.now }
 {
-    is_set(r, layout::EARLY_GAP) | (is_set(r, layout::GAP) | any_from_ten(r))
+    is_set(r, layout::EARLY_GAP) | is_set(r, layout::GAP) | any_from_ten(r)
 }
 
 pub(crate) fn beside_prompt(r: &[u8]) -> bool
     requires { record_bytes ≤ length r.now }
     ensures { result ≡ unused_beside prompt_fields r.now }
 {
-    is_set(r, layout::GAP) | (any_of_sixteen(r, layout::PROMPT_END) | any_from_thirty_two(r))
+    is_set(r, layout::GAP) | any_of_sixteen(r, layout::PROMPT_END) | any_from_thirty_two(r)
 }
 
 pub(crate) fn beside_row(r: &[u8]) -> bool
@@ -90,8 +89,9 @@ fn any_after_legs(r: &[u8]) -> bool
     ensures { result ≡ any (not_zero r.now) (count_from 20 76) }
 {
     any_of_four(r, layout::THREE_LEGS_END)
-        | (any_of_four(r, layout::THREE_LEGS_END + 4)
-            | (any_of_four(r, layout::THREE_LEGS_END + 8) | any_from_thirty_two(r)))
+        | any_of_four(r, layout::THREE_LEGS_END + 4)
+        | any_of_four(r, layout::THREE_LEGS_END + 8)
+        | any_from_thirty_two(r)
 }
 
 pub(crate) fn beside_spread(r: &[u8]) -> bool
@@ -100,7 +100,7 @@ pub(crate) fn beside_spread(r: &[u8]) -> bool
 {
     let late = any_after_legs(r);
     if byte_in(r, layout::LEG_COUNT) == 2 {
-        is_set(r, layout::GAP) | (any_of_four(r, layout::TWO_LEGS_END) | late)
+        is_set(r, layout::GAP) | any_of_four(r, layout::TWO_LEGS_END) | late
     } else {
         is_set(r, layout::GAP) | late
     }
@@ -118,7 +118,9 @@ pub(crate) fn beside_rate(r: &[u8]) -> bool
     ensures { result ≡ unused_beside rate_fields r.now }
 {
     is_set(r, layout::EARLY_GAP)
-        | (is_set(r, layout::GAP) | (is_set(r, layout::RATE_END) | any_from_ten(r)))
+        | is_set(r, layout::GAP)
+        | is_set(r, layout::RATE_END)
+        | any_from_ten(r)
 }
 
 pub(crate) fn beside_none(r: &[u8]) -> bool

@@ -77,14 +77,6 @@ pub side_market : (s : ℕ) (second : Bool) → short_if (beq (eqb s 1) second) 
 side_market s true = side_short (eqb s 1) true
 side_market s false = side_short (eqb s 1) false
 
--- the cell of a leg within the tiers
-pub cell_in_step : (l : Leg) (second b : Bool) → l.tier < tier_count → beq (eqb l.side 1) second ≡ b
-    → cell_of (market_in second l.side) l.tier ≡ 2 * l.tier + parity (short_if b)
-cell_in_step l second b h e =
-    ap (λ (m : Market). cell_of m l.tier) (sym (side_market l.side second))
-    ∙ in_range (short_if (beq (eqb l.side 1) second)) l.tier h
-    ∙ ap (λ (a : Bool). 2 * l.tier + parity (short_if a)) e
-
 -- one cell changed
 pub cell_set : (cells : List ℕ) (n : Market) (u v : ℕ) (m : Market) (t : ℕ) → length cells ≡ pool_count → u < tier_count
     → cell_at (set cells (cell_of n u) v) m t ≡ cond (same_market n m && eqb t u) v (cell_at cells m t)

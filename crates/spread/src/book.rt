@@ -8,9 +8,9 @@ ghost use Rattle.spread.specs.code.Lent.{deltas_from, spreads_from, prompts_in, 
 
 use crate::accepted::accepted;
 use crate::plain::{deltas_from, plain, spreads_from};
-use crate::pools::{CELLS, beyond, cell_of, pools_for, put_back};
+use crate::pools::{CELLS, cell_of, pools_for, put_back};
 use crate::{Delta, MOST_PROMPTS, MOST_SPREADS, Prompts, Spreads, Table};
-use exact::signed::{minus, towards_zero};
+use exact::signed::towards_zero;
 
 // Spread k formed first[k] in its first step and second[k] in its second; used[k] and unused[k] are the parts of prompt k's
 // net delta. All are zero beyond the spreads and prompts given, and where these are not accepted.
@@ -37,12 +37,10 @@ pub(crate) fn pools_of(count: usize, tiers: &[u8], nets: &[i64]) -> [u64; CELLS]
     ensures { Pooled result (open_of (prompts_in count tiers.now nets.now)) }
 {
     let mut cells = [0; CELLS];
-    let mut i = 0;
-    while i < count {
+    for i in 0..count {
         let net = Delta(nets[i]);
         let cell = pool_of(tiers[i], net);
-        cells[cell] = cells[cell] + net.size();
-        i += 1;
+        cells[cell] += net.size();
     }
     cells
 }
@@ -59,9 +57,7 @@ fn run(
     ensures { Run cells.old (table_spreads table) cells.new (spreads_from first.new)
         (spreads_from second.new) }
 {
-    let n = table.count;
-    let mut i = 0;
-    while i < n {
+    for i in 0..table.count {
         let spread = table.spread[i];
         let pools = pools_for(cells, spread, false);
         if pools.has_room() {
@@ -75,7 +71,6 @@ fn run(
             put_back(cells, spread, true, took.left);
             second[i] = took.number.0;
         }
-        i += 1;
     }
 }
 
@@ -97,16 +92,14 @@ pub(crate) fn pay(
         (deltas_from used.new) (deltas_from unused.new) }
 {
     let mut had = pools;
-    let mut k = 0;
-    while k < count {
+    for k in 0..count {
         let net = Delta(nets[k]);
         let cell = pool_of(tiers[k], net);
-        let due = beyond(had[cell], left[cell]);
+        let due = had[cell].saturating_sub(left[cell]);
         let kept = towards_zero(net.0, due);
-        used[k] = minus(net.0, kept);
+        used[k] = net.0 - kept;
         unused[k] = kept;
-        had[cell] = beyond(had[cell], net.size());
-        k += 1;
+        had[cell] = had[cell].saturating_sub(net.size());
     }
 }
 
@@ -151,33 +144,26 @@ pub fn book_of_accepted(prompts: Prompts, table: Table) -> Book
     requires { sound prompts table ≡ true }
     ensures { Booked prompts table result }
 {
-    let tiers = prompts.tier;
-    let net = prompts.net;
-    let nets = plain(net);
     let mut first = [0; MOST_SPREADS];
     let mut second = [0; MOST_SPREADS];
     let mut used = [0; MOST_PROMPTS];
     let mut unused = [0; MOST_PROMPTS];
     put_book(
         prompts.count,
-        &tiers,
-        &nets,
+        &prompts.tier,
+        &plain(prompts.net),
         table,
         &mut first,
         &mut second,
         &mut used,
         &mut unused,
     );
-    let formed = spreads_from(first);
-    let reverse = spreads_from(second);
-    let taken = deltas_from(used);
-    let kept = deltas_from(unused);
     Book {
         accepted: true,
-        first: formed,
-        second: reverse,
-        used: taken,
-        unused: kept,
+        first: spreads_from(first),
+        second: spreads_from(second),
+        used: deltas_from(used),
+        unused: deltas_from(unused),
     }
 }
 
@@ -187,8 +173,9 @@ pub fn book_of_accepted(prompts: Prompts, table: Table) -> Book
 pub fn delta_book(prompts: Prompts, table: Table) -> Book
     ensures { Booked prompts table result }
 {
-    if !accepted(prompts, table) {
-        return refused();
+    if accepted(prompts, table) {
+        book_of_accepted(prompts, table)
+    } else {
+        refused()
     }
-    book_of_accepted(prompts, table)
 }

@@ -8,12 +8,8 @@ pub fn plain(deltas: [Delta; MOST_PROMPTS]) -> [i64; MOST_PROMPTS]
     ensures { result ≡ deltas_in deltas }
 {
     let mut numbers = [0; MOST_PROMPTS];
-    let mut k = 0;
-    while k < MOST_PROMPTS {
-        let delta = deltas[k];
-        let number = delta.0;
-        numbers[k] = number;
-        k += 1;
+    for (k, delta) in deltas.iter().enumerate() {
+        numbers[k] = delta.0;
     }
     numbers
 }
@@ -22,10 +18,8 @@ pub fn deltas_from(numbers: [i64; MOST_PROMPTS]) -> [Delta; MOST_PROMPTS]
     ensures { result ≡ deltas_from numbers }
 {
     let mut deltas = [Delta(0); MOST_PROMPTS];
-    let mut k = 0;
-    while k < MOST_PROMPTS {
-        deltas[k] = Delta(numbers[k]);
-        k += 1;
+    for (k, number) in numbers.iter().enumerate() {
+        deltas[k] = Delta(*number);
     }
     deltas
 }
@@ -34,10 +28,8 @@ pub(crate) fn spreads_from(numbers: [u64; MOST_SPREADS]) -> [Spreads; MOST_SPREA
     ensures { result ≡ spreads_from numbers }
 {
     let mut spreads = [Spreads(0); MOST_SPREADS];
-    let mut i = 0;
-    while i < MOST_SPREADS {
-        spreads[i] = Spreads(numbers[i]);
-        i += 1;
+    for (i, number) in numbers.iter().enumerate() {
+        spreads[i] = Spreads(*number);
     }
     spreads
 }
@@ -46,11 +38,8 @@ pub(crate) fn numbers_of(spreads: [Spreads; MOST_SPREADS]) -> [u64; MOST_SPREADS
     ensures { spreads_from result ≡ spreads }
 {
     let mut numbers = [0; MOST_SPREADS];
-    let mut i = 0;
-    while i < MOST_SPREADS {
-        let number = spreads[i];
-        numbers[i] = number.0;
-        i += 1;
+    for (i, formed) in spreads.iter().enumerate() {
+        numbers[i] = formed.0;
     }
     numbers
 }

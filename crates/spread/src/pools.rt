@@ -36,19 +36,19 @@ pub(crate) struct Took {
 pub(crate) fn cell_of(tier: u8, short: bool) -> usize
     ensures { result ≡ cell_of (short_if short) tier }
 {
-    let t = tier as usize;
-    if t >= TIERS {
-        return CELLS;
+    let t = usize::from(tier);
+    if t < TIERS {
+        2 * t + usize::from(short)
+    } else {
+        CELLS
     }
-    if short { 2 * t + 1 } else { 2 * t }
 }
 
 // The pool that a leg takes from, in its spread's first step or in the second.
 pub(crate) fn cell_for(leg: Leg, second: bool) -> usize
     ensures { result ≡ cell_of (market_in second leg.side) leg.tier }
 {
-    let a = leg.side == 1;
-    cell_of(leg.tier, a == second)
+    cell_of(leg.tier, (leg.side == 1) == second)
 }
 
 // The same of a leg whose tier is in range.
@@ -56,9 +56,7 @@ fn leg_cell(leg: Leg, second: bool) -> usize
     requires { sound_leg leg ≡ true }
     ensures { (result ≡ cell_of (market_in second leg.side) leg.tier) × (result < pool_count) }
 {
-    let t = leg.tier as usize;
-    let a = leg.side == 1;
-    if a == second { 2 * t + 1 } else { 2 * t }
+    2 * usize::from(leg.tier) + usize::from((leg.side == 1) == second)
 }
 
 // "pool divided by ratio, whole ten-thousandths, rounded down"; of tenths "10 × pool / ratio, rounded down".
@@ -67,12 +65,12 @@ fn room(pool: u64, ratio: u16, tenths: bool) -> u64
     ensures { result ≡ Steps.room tenths pool ratio }
 {
     if tenths {
-        return TENTHS * pool / (ratio as u64);
+        TENTHS * pool / u64::from(ratio)
+    } else if ratio == 1 {
+        pool
+    } else {
+        pool / u64::from(ratio)
     }
-    if ratio == 1 {
-        return pool;
-    }
-    pool / (ratio as u64)
 }
 
 // "number × ratio"; of tenths "number × ratio / 10, rounded to a ten-thousandth, halves up".
@@ -80,7 +78,7 @@ pub(crate) fn use_of(number: u64, ratio: u16, tenths: bool) -> u64
     requires { number ≤ most_number }
     ensures { result ≡ use_of tenths number ratio }
 {
-    let product = number * (ratio as u64);
+    let product = number * u64::from(ratio);
     if tenths {
         half_up(product, TENTHS)
     } else {
@@ -88,25 +86,11 @@ pub(crate) fn use_of(number: u64, ratio: u16, tenths: bool) -> u64
     }
 }
 
-// What of a is beyond b.
-pub(crate) fn beyond(a: u64, b: u64) -> u64
-    ensures { result ≡ a - b }
-{
-    if b < a { a - b } else { 0 }
-}
-
-pub(crate) fn lesser(a: u64, b: u64) -> u64
-    ensures { result ≡ min a b }
-{
-    if a < b { a } else { b }
-}
-
 fn pool_for(cells: &[u64], leg: Leg, second: bool) -> u64
     requires { (length cells.now ≡ pool_count) × (sound_leg leg ≡ true) }
     ensures { result ≡ cell_at cells.now (market_in second leg.side) leg.tier }
 {
-    let cell = leg_cell(leg, second);
-    cells[cell]
+    cells[leg_cell(leg, second)]
 }
 
 // The pools of a spread's legs in a step: "first A legs take long and B legs short, then the reverse".
@@ -116,19 +100,12 @@ pub(crate) fn pools_for(cells: &[u64], spread: Spread, second: bool) -> Pools
 {
     let one = pool_for(cells, spread.leg[0], second);
     let two = pool_for(cells, spread.leg[1], second);
-    if spread.legs == 2 {
-        return Pools {
-            one: one,
-            two: two,
-            three: one,
-        };
-    }
-    let three = pool_for(cells, spread.leg[2], second);
-    Pools {
-        one: one,
-        two: two,
-        three: three,
-    }
+    let three = if spread.legs == 2 {
+        one
+    } else {
+        pool_for(cells, spread.leg[2], second)
+    };
+    Pools { one, two, three }
 }
 
 // Puts what a step leaves of its pools where the next finds it.
@@ -148,7 +125,7 @@ fn left_by(pool: u64, number: u64, ratio: u16, tenths: bool) -> u64
     requires { number ≤ most_number }
     ensures { result ≡ pool - use_of tenths number ratio }
 {
-    beyond(pool, use_of(number, ratio, tenths))
+    pool.saturating_sub(use_of(number, ratio, tenths))
 }
 
 impl Pools {
@@ -156,7 +133,7 @@ impl Pools {
     pub(crate) fn has_room(self) -> bool
         ensures { result ≡ ltb 0 (lowest self) }
     {
-        0 < lesser(self.one, lesser(self.two, self.three))
+        0 < self.one.min(self.two).min(self.three)
     }
 
     // "The number formed is the smallest over its legs".
@@ -167,11 +144,12 @@ impl Pools {
         let tenths = spread.tenths;
         let one = room(self.one, spread.leg[0].ratio, tenths);
         let two = room(self.two, spread.leg[1].ratio, tenths);
+        let of_two = one.min(two);
         if spread.legs == 2 {
-            return lesser(one, two);
+            of_two
+        } else {
+            of_two.min(room(self.three, spread.leg[2].ratio, tenths))
         }
-        let three = room(self.three, spread.leg[2].ratio, tenths);
-        lesser(one, lesser(two, three))
     }
 
     // A step of a spread: the number that it forms, and what it leaves of its pools.

@@ -47,27 +47,22 @@ pub fn step_over(prompts: Prompts, spread: Spread, second: bool) -> Step
     }
     let count = prompts.count;
     let tiers = prompts.tier;
-    let net = prompts.net;
-    let nets = plain(net);
+    let nets = plain(prompts.net);
     let pools = pools_of(count, &tiers, &nets);
     let took = pools_for(&pools, spread, second).take(spread);
-    let number = took.number;
     let mut after = pools;
     put_back(&mut after, spread, second, took.left);
     let mut used = [0; MOST_PROMPTS];
     let mut unused = [0; MOST_PROMPTS];
     pay(count, &tiers, &nets, pools, &after, &mut used, &mut unused);
-    let taken = deltas_from(used);
-    let kept = deltas_from(unused);
-    let left = Prompts {
-        count: count,
-        tier: tiers,
-        net: kept,
-    };
     Step {
         accepted: true,
-        number: number,
-        taken: taken,
-        left: left,
+        number: took.number,
+        taken: deltas_from(used),
+        left: Prompts {
+            count,
+            tier: tiers,
+            net: deltas_from(unused),
+        },
     }
 }

@@ -11,7 +11,7 @@ ghost use Rattle.spread.specs.code.Book.{Booked, Run, CountedBook};
 
 use crate::book::{Book, delta_book, pay, pool_of, pools_of};
 use crate::plain::{numbers_of, plain};
-use crate::pools::{CELLS, cell_for, lesser, pools_for, put_back, use_of};
+use crate::pools::{CELLS, cell_for, pools_for, put_back, use_of};
 use crate::{Delta, Leg, MOST_PROMPTS, MOST_SPREADS, Prompts, Spread, Spreads, Table};
 
 // A cell for each pool, and one for a tier out of range.
@@ -31,12 +31,6 @@ struct Passing {
     touches: u64,
 }
 
-fn earlier(a: usize, b: usize) -> usize
-    ensures { result ≡ min a b }
-{
-    if a < b { a } else { b }
-}
-
 // Each prompt's pool and the size of its net delta, zero beyond the prompts, and for each pool the place of its first prompt.
 fn lay(
     pool: &mut [usize],
@@ -52,14 +46,12 @@ fn lay(
     ensures { Laid (open_of (prompts_in count tiers.now nets.now)) pool.new size.new
         × Begun at.new pool.new size.new }
 {
-    let mut k = 0;
-    while k < count {
+    for k in 0..count {
         let net = Delta(nets[k]);
         let cell = pool_of(tiers[k], net);
         pool[k] = cell;
         size[k] = net.size();
-        at[cell] = earlier(at[cell], k);
-        k += 1;
+        at[cell] = at[cell].min(k);
     }
 }
 
@@ -67,16 +59,7 @@ fn lay(
 fn gives(cell: usize, wanted: u64, pool: usize, size: u64) -> u64
     ensures { result ≡ gives_in cell wanted pool size }
 {
-    if pool == cell {
-        return lesser(wanted, size);
-    }
-    0
-}
-
-fn one_if(there: bool) -> u64
-    ensures { result ≡ one_if there }
-{
-    if there { 1 } else { 0 }
+    if pool == cell { wanted.min(size) } else { 0 }
 }
 
 // The next place where more is wanted, else the same.
@@ -95,17 +78,15 @@ fn pass(size: &mut [u64], pool: &[usize], cell: usize, wanted: u64, start: usize
     let mut due = wanted;
     let mut k = start;
     let mut touches = 0;
+    // A while: it goes on only where more is wanted, and stays where it stops.
     while (0 < due) & (k < MOST_PROMPTS) {
         let given = gives(cell, due, pool[k], size[k]);
-        size[k] = size[k] - given;
-        due = due - given;
-        touches = touches + one_if(0 < given);
+        size[k] -= given;
+        due -= given;
+        touches += u64::from(0 < given);
         k = further(k, due);
     }
-    Passing {
-        at: k,
-        touches: touches,
-    }
+    Passing { at: k, touches }
 }
 
 // A leg in a step: how many prompts it takes of.
@@ -122,8 +103,7 @@ fn leg_touches(
         at.new result }
 {
     let cell = cell_for(leg, second);
-    let start = at[cell];
-    let passed = pass(size, pool, cell, wanted, start);
+    let passed = pass(size, pool, cell, wanted, at[cell]);
     at[cell] = passed.at;
     passed.touches
 }
@@ -155,35 +135,14 @@ fn step_touches(
     if number == 0 {
         return 0;
     }
-    let legs = spread.legs;
-    let tenths = spread.tenths;
-    let one = spread.leg[0];
-    let two = spread.leg[1];
-    let three = spread.leg[2];
-    let a = leg_touches(
-        size,
-        at,
-        pool,
-        one,
-        second,
-        wanted_by(0 < legs, one, tenths, number),
-    );
-    let b = leg_touches(
-        size,
-        at,
-        pool,
-        two,
-        second,
-        wanted_by(1 < legs, two, tenths, number),
-    );
-    let c = leg_touches(
-        size,
-        at,
-        pool,
-        three,
-        second,
-        wanted_by(2 < legs, three, tenths, number),
-    );
+    let Spread { legs, tenths, leg } = spread;
+    let [one, two, three] = leg;
+    let one_wants = wanted_by(0 < legs, one, tenths, number);
+    let two_wants = wanted_by(1 < legs, two, tenths, number);
+    let three_wants = wanted_by(2 < legs, three, tenths, number);
+    let a = leg_touches(size, at, pool, one, second, one_wants);
+    let b = leg_touches(size, at, pool, two, second, two_wants);
+    let c = leg_touches(size, at, pool, three, second, three_wants);
     a + b + c
 }
 
@@ -205,10 +164,8 @@ fn run_counted(
     ensures counted { (ps : List Open) → Laid ps pool.now size.old
         → numbers_over (steps_of table) cells.old ≡ numbers (steps_of table) ps → result ≡ touches (steps_of table) ps }
 {
-    let n = table.count;
     let mut touches = 0;
-    let mut i = 0;
-    while i < n {
+    for i in 0..table.count {
         let spread = table.spread[i];
         let pools = pools_for(cells, spread, false);
         if pools.has_room() {
@@ -222,10 +179,9 @@ fn run_counted(
             put_back(cells, spread, true, took.left);
             second[i] = took.number.0;
         }
-        let one = step_touches(size, at, pool, spread, false, first[i]);
-        let two = step_touches(size, at, pool, spread, true, second[i]);
-        touches += one + two;
-        i += 1;
+        let by_first = step_touches(size, at, pool, spread, false, first[i]);
+        let by_second = step_touches(size, at, pool, spread, true, second[i]);
+        touches += by_first + by_second;
     }
     touches
 }
@@ -276,17 +232,12 @@ pub fn touches_in(
     let mut size = [0; MOST_PROMPTS];
     let mut at = [MOST_PROMPTS; PLACES];
     lay(&mut pool, &mut size, &mut at, count, tiers, nets);
-    let n = table.count;
     let mut touches = 0;
-    let mut i = 0;
-    while i < n {
+    for i in 0..table.count {
         let spread = table.spread[i];
-        let formed = first[i];
-        let reverse = second[i];
-        let one = step_touches(&mut size, &mut at, &pool, spread, false, formed);
-        let two = step_touches(&mut size, &mut at, &pool, spread, true, reverse);
-        touches = touches + (one + two);
-        i += 1;
+        let one = step_touches(&mut size, &mut at, &pool, spread, false, first[i]);
+        let two = step_touches(&mut size, &mut at, &pool, spread, true, second[i]);
+        touches += one + two;
     }
     touches
 }
@@ -301,12 +252,14 @@ pub fn touches_of(
     requires { (sound prompts table ≡ true) × FormedBy prompts table first second }
     ensures { result ≡ touches (steps_of table) (open_of prompts) }
 {
-    let tiers = prompts.tier;
-    let net = prompts.net;
-    let nets = plain(net);
-    let formed = numbers_of(first);
-    let reverse = numbers_of(second);
-    touches_in(prompts.count, &tiers, &nets, table, &formed, &reverse)
+    touches_in(
+        prompts.count,
+        &prompts.tier,
+        &plain(prompts.net),
+        table,
+        &numbers_of(first),
+        &numbers_of(second),
+    )
 }
 
 // The delta book, and "how many times some step moved some prompt's unused delta towards zero". Prompts or spreads that are
@@ -315,17 +268,10 @@ pub fn counted_book(prompts: Prompts, table: Table) -> Counted
     ensures { CountedBook prompts table result }
 {
     let book = delta_book(prompts, table);
-    if !book.accepted {
-        return Counted {
-            book: book,
-            touches: 0,
-        };
-    }
-    let first = book.first;
-    let second = book.second;
-    let touches = touches_of(prompts, table, first, second);
-    Counted {
-        book: book,
-        touches: touches,
-    }
+    let touches = if book.accepted {
+        touches_of(prompts, table, book.first, book.second)
+    } else {
+        0
+    };
+    Counted { book, touches }
 }

@@ -16,10 +16,9 @@ fn no_prompts() -> Prompts {
 // One prompt more, the later of its tier; none beyond the most.
 fn prompt(mut prompts: Prompts, tier: u8, net: i64) -> Prompts {
     let k = prompts.count;
-    let delta = Delta(net);
     if k < MOST_PROMPTS {
         prompts.tier[k] = tier;
-        prompts.net[k] = delta;
+        prompts.net[k] = Delta(net);
         prompts.count = k + 1;
     }
     prompts
@@ -90,35 +89,20 @@ fn print_prompt(rt: &impl Print, net: Delta, used: Delta, unused: Delta) {
 }
 
 fn print_spreads(rt: &impl Print, count: usize, book: Book) {
-    let mut k = 0;
-    while k < MOST_SPREADS {
-        if k < count {
-            let first = book.first[k];
-            let second = book.second[k];
-            print_spread(rt, first.0, second.0);
-        }
-        k += 1;
+    for k in 0..count.min(MOST_SPREADS) {
+        print_spread(rt, book.first[k].0, book.second[k].0);
     }
 }
 
 fn print_prompts(rt: &impl Print, prompts: Prompts, book: Book) {
-    let count = prompts.count;
-    let mut k = 0;
-    while k < MOST_PROMPTS {
-        if k < count {
-            let net = prompts.net[k];
-            let used = book.used[k];
-            let unused = book.unused[k];
-            print_prompt(rt, net, used, unused);
-        }
-        k += 1;
+    for k in 0..prompts.count.min(MOST_PROMPTS) {
+        print_prompt(rt, prompts.net[k], book.used[k], book.unused[k]);
     }
 }
 
 fn print_case(rt: &impl Print, prompts: Prompts, table: Table) {
     let book = delta_book(prompts, table);
-    let count = table.count;
-    print_spreads(rt, count, book);
+    print_spreads(rt, table.count, book);
     print_prompts(rt, prompts, book);
 }
 

@@ -15,8 +15,8 @@ use Rattle.judging.specs.declared.Verdict.TheVariants.{Right}
 use Rattle.judging.proofs.Walking.{compared}
 use Rattle.judging.proofs.compare.Goals as goal
 
-pub same_uses-requires : goal.same_uses-requires
-same_uses-requires c =
+pub same_uses-alike-requires : goal.same_uses-alike-requires
+same_uses-alike-requires c =
     let p = c.args.prompts in
     let n : p.count ≤ prompt_places = few p (and_left (sound_prompts p) (sound_spread c.args.spread) c.requires.0) in
     omega (arith, c.requires.1)
@@ -29,6 +29,6 @@ returns c =
     let lt : length p.tier ≡ prompt_places = search rules in
     let ln : length p.net ≡ prompt_places = search rules in
     compared p a.spread a.second st.result st.ensures c.requires.0 lt ln a.step a.number a.uses.now c.requires.1
-    c.verdict_of-verdict.result c.same_uses.result c.same_uses.ensures
-    (seen (λ (z : ℤ). verdict_of a.step st.result.number.0 z c.same_uses.result Right) a.number c.ranges.number
-    c.verdict_of-verdict.ensures)
+    c.verdict_of.result c.same_uses-alike.result c.same_uses-alike.ensures
+    (seen (λ (z : ℤ). verdict_of a.step st.result.number.0 z c.same_uses-alike.result Right) a.number c.ranges.number
+    c.verdict_of.ensures)

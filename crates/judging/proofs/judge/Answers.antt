@@ -1,13 +1,11 @@
 -- `judge`: what is not accepted has no list; then the counts; then the steps.
--- Assumes nothing.
-use mathlib.Core.Bool.{true}
 use mathlib.Core.Path.{◌≡◌, sym, ◌∙◌}
 use borrow.Author.Rules.{rules}
 use lib.ListN.{length}
-use Rattle.spread.specs.Accepted.{sound, prompt_places, spread_places}
-use Rattle.judging.proofs.Walking.{not_accepted, few_of_each, counts_differ, steps_are, uses_are, counts_same}
+use Rattle.spread.specs.Accepted.{prompt_places, spread_places}
+use Rattle.judging.proofs.Walking.{not_accepted, counts_differ, counts_same}
 use Rattle.judging.proofs.judge.Goals as goal
-use Rattle.judging.proofs.judge.Goals.{Else-not-accepted, Start}
+use Rattle.judging.proofs.judge.Goals.{Start, else-accepted-via-then-accepted+else-same_counts, else-accepted-via-else-accepted}
 
 -- the arrays have their places
 tier-places : (s : Start) → length s.args.prompts.tier ≡ prompt_places
@@ -19,44 +17,22 @@ net-places s = search rules
 spread-places : (s : Start) → length s.args.table.spread ≡ spread_places
 spread-places s = search rules
 
-ok : (c : Else-not-accepted) → sound c.args.prompts c.args.table ≡ true
-ok c = sym c.accepted.ensures ∙ c.if-not-accepted.false
-
-pub returns-then-not-accepted : goal.returns-then-not-accepted
-returns-then-not-accepted c =
+pub returns-then-same_counts : goal.returns-then-same_counts
+returns-then-same_counts c =
+    let at = (goal.at.returns-then-same_counts c).Start in
     let a = c.args in
-    not_accepted a.prompts a.table a.sent a.numbers.now a.uses.now
-    (sym c.accepted.ensures ∙ c.if-not-accepted.true)
-
-pub same_counts-requires : goal.same_counts-requires
-same_counts-requires c =
-    let at = (goal.at.same_counts-requires c).Start in
-    let a = c.args in
-    few_of_each a.prompts a.table a.sent a.numbers.now a.uses.now (ok c) (tier-places at) (net-places at) (spread-places at)
-
-pub returns-then-not-same_counts : goal.returns-then-not-same_counts
-returns-then-not-same_counts c =
-    let at = goal.at.returns-then-not-same_counts c in
-    let a = c.args in
-    counts_differ a.prompts a.table a.sent a.numbers.now a.uses.now (ok at.Else-not-accepted) (tier-places at.Start) (net-places at.Start) (spread-places at.Start)
-    (sym c.same_counts.ensures ∙ c.if-not-same_counts.true)
-
-pub judge_steps-requires : goal.judge_steps-requires
-judge_steps-requires c =
-    let at = goal.at.judge_steps-requires c in
-    let a = c.args in
-    let e = sym c.same_counts.ensures ∙ c.if-not-same_counts.false in (
-      ok at.Else-not-accepted,
-      (
-        steps_are a.prompts a.table a.sent a.numbers.now a.uses.now (ok at.Else-not-accepted) (tier-places at.Start) (net-places at.Start) (spread-places at.Start) e,
-        uses_are a.prompts a.table a.sent a.numbers.now a.uses.now (ok at.Else-not-accepted) (tier-places at.Start) (net-places at.Start) (spread-places at.Start) e,
-      ),
-    )
-
-pub returns : goal.returns
-returns c =
-    let at = goal.at.returns c in
-    let a = c.args in
-    let e = sym c.same_counts.ensures ∙ c.if-not-same_counts.false in
     c.judge_steps.ensures
-    ∙ counts_same a.prompts a.table a.sent a.numbers.now a.uses.now (ok at.Else-not-accepted) (tier-places at.Start) (net-places at.Start) (spread-places at.Start) e
+    ∙ counts_same a.prompts a.table a.sent a.numbers.now a.uses.now (sym c.accepted.ensures ∙ c.if-accepted.true) (tier-places at) (net-places at) (spread-places at)
+    (sym c.same_counts.ensures ∙ c.if-same_counts.true)
+
+pub returns-else-accepted : goal.returns-else-accepted
+returns-else-accepted c =
+    let at = (goal.at.returns-else-accepted c).Start in
+    let a = c.args in
+    elim c.else-accepted.branch [
+      | else-accepted-via-then-accepted+else-same_counts w ↦
+          counts_differ a.prompts a.table a.sent a.numbers.now a.uses.now (sym c.accepted.ensures ∙ w.if-accepted.true) (tier-places at) (net-places at)
+          (spread-places at) (sym w.same_counts.ensures ∙ w.if-same_counts.false)
+      | else-accepted-via-else-accepted w ↦
+          not_accepted a.prompts a.table a.sent a.numbers.now a.uses.now (sym c.accepted.ensures ∙ w.if-accepted.false)
+    ]

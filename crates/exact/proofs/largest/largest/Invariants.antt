@@ -4,6 +4,3 @@ use Rattle.exact.proofs.largest.largest.Given as goal
 
 abbrev pub invariant-loop-i : goal.invariant-loop-i
 invariant-loop-i l = Seen l.totals l.i l.best.value l.best.number
-
-abbrev pub decreases-loop-i : goal.decreases-loop-i
-decreases-loop-i l = l.i

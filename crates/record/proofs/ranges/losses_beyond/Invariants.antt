@@ -14,6 +14,3 @@ wrong r scenario = outside r (loss_field scenario)
 abbrev pub invariant-loop-k : goal.invariant-loop-k
 invariant-loop-k l =
     any (wrong l.r) (count_from 1 scenario_count) ≡ l.outside || any (wrong l.r) (count_from (l.k + 1) (scenario_count + 1 - (l.k + 1)))
-
-abbrev pub decreases-loop-k : goal.decreases-loop-k
-decreases-loop-k l = scenario_count - l.k

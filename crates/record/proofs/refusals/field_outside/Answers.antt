@@ -1,9 +1,7 @@
--- `record::refusals::field_outside` meets its contract. Assumes nothing.
+-- `field_outside`: the zeros after a shorter record change nothing.
 use mathlib.Core.Path.{◌∙◌}
 use Rattle.record.proofs.Padding.{same_outside}
 use Rattle.record.proofs.refusals.field_outside.Goals as goal
 
-pub returns : goal.returns
-returns c =
-    let padded = c.padded in
-    c.whole_field_outside-2.ensures ∙ same_outside padded.result c.args.r.now padded.ensures.1
+pub returns-else-r-ge-RECORD_BYTES : goal.returns-else-r-ge-RECORD_BYTES
+returns-else-r-ge-RECORD_BYTES c = c.whole_field_outside-else-r-ge-RECORD_BYTES.ensures ∙ same_outside c.padded.result c.args.r.now c.padded.ensures.1

@@ -1,12 +1,6 @@
-use native.Mathlib.Omega.{arith}
-use Rattle.record.proofs.Padding.{padding_start, padding_next, padding_ends}
+-- `padded`: the record's bytes, and what is left of the zeros.
+use Rattle.record.proofs.Padding.{padded_is}
 use Rattle.record.proofs.refusals.padded.Goals as goal
 
-pub loop-i-init : goal.loop-i-init
-loop-i-init c = padding_start c.args.r.now
-
-pub loop-i-preserved : goal.loop-i-preserved
-loop-i-preserved c = padding_next c.loop-i.invariant (omega arith) (omega arith)
-
 pub returns : goal.returns
-returns c = (c.loop-i.invariant.long, padding_ends c.loop-i.invariant (omega arith))
+returns c = padded_is c.args.r.now c.requires c.copy_from_slice.new.self c.copy_from_slice.ensures.after

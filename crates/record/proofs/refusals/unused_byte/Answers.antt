@@ -1,9 +1,7 @@
--- `record::refusals::unused_byte` meets its contract. Assumes nothing.
+-- `unused_byte`: the zeros after a shorter record change nothing.
 use mathlib.Core.Path.{◌∙◌}
 use Rattle.record.proofs.Padding.{same_unused}
 use Rattle.record.proofs.refusals.unused_byte.Goals as goal
 
-pub returns : goal.returns
-returns c =
-    let padded = c.padded in
-    c.whole_unused_byte-2.ensures ∙ same_unused padded.result c.args.r.now padded.ensures.1
+pub returns-else-r-ge-RECORD_BYTES : goal.returns-else-r-ge-RECORD_BYTES
+returns-else-r-ge-RECORD_BYTES c = c.whole_unused_byte-else-r-ge-RECORD_BYTES.ensures ∙ same_unused c.padded.result c.args.r.now c.padded.ensures.1

@@ -9,6 +9,3 @@ use Rattle.record.proofs.unused.set_between.Given as goal
 
 abbrev pub invariant-loop-i : goal.invariant-loop-i
 invariant-loop-i l = any (not_zero l.r) (count_from l.o (l.end - l.o)) ≡ l.set || any (not_zero l.r) (count_from l.i (l.end - l.i))
-
-abbrev pub decreases-loop-i : goal.decreases-loop-i
-decreases-loop-i l = l.end - l.i

@@ -11,13 +11,13 @@ use Rattle.spread.proofs.book.book_of_accepted.Goals as goal
 pub put_book-requires : goal.put_book-requires
 put_book-requires c =
     let p = c.args.prompts in (
-      subst⁻¹ (λ (q : Prompts). sound q c.args.table ≡ true) (prompts_back p c.plain-nets.result c.plain-nets.ensures) c.requires,
+      subst⁻¹ (λ (q : Prompts). sound q c.args.table ≡ true) (prompts_back p c.plain.result c.plain.ensures) c.requires,
       ((refl, refl), (refl, refl)),
     )
 
 pub returns : goal.returns
 returns c =
     let ends = c.put_book.new in
-    booked_lent c.args.prompts c.args.table c.plain-nets.result ends.first ends.second ends.used ends.unused _ _ _ _
-    c.plain-nets.ensures c.spreads_from-formed.ensures
-    c.spreads_from-reverse.ensures c.deltas_from-taken.ensures c.deltas_from-kept.ensures c.put_book.ensures
+    booked_lent c.args.prompts c.args.table c.plain.result ends.first ends.second ends.used ends.unused _ _ _ _
+    c.plain.ensures c.spreads_from.ensures
+    c.spreads_from-2.ensures c.deltas_from.ensures c.deltas_from-2.ensures c.put_book.ensures

@@ -4,10 +4,7 @@ use mathlib.Core.Path.{sym, ◌∙◌}
 use Rattle.spread.proofs.Booking.{booked_refused}
 use Rattle.spread.proofs.book.delta_book.Goals as goal
 
-pub returns-then-not-accepted : goal.returns-then-not-accepted
-returns-then-not-accepted c =
+pub returns-else-accepted : goal.returns-else-accepted
+returns-else-accepted c =
     booked_refused c.args.prompts c.args.table c.refused.result
-    (sym c.accepted.ensures ∙ c.if-not-accepted.true) c.refused.ensures
-
-pub book_of_accepted-requires : goal.book_of_accepted-requires
-book_of_accepted-requires c = sym c.accepted.ensures ∙ c.if-not-accepted.false
+    (sym c.accepted.ensures ∙ c.if-accepted.false) c.refused.ensures

@@ -6,7 +6,7 @@ use lib.IntN.{ℤ, pos, negsuc, neg_ℤ, ◌-ℤ◌}
 use lib.ListN.{length, length-map, get_or, set, replicate}
 use mir.Syntax.{w64}
 use mir.Val.{SFits, to_z, of_z}
-use Rattle.exact.proofs.Integers.{back, seen, seen₂, taken_sign}
+use Rattle.exact.proofs.Integers.{back, seen, taken_sign}
 use Rattle.exact.specs.Signed.{towards_zero}
 use Rattle.spread.specs.Accepted.{open_of, prompt_places}
 use Rattle.spread.specs.code.Cells.{pool_count}
@@ -17,7 +17,7 @@ use Rattle.spread.proofs.Gathering.{few, Placed, placed_within}
 use Rattle.spread.proofs.Lent.{placed_in}
 use Rattle.spread.proofs.Paying.{Paying, paying_none, pay_next, paying_all}
 use Rattle.spread.proofs.book.pay.Goals as goal
-use Rattle.spread.proofs.book.pay.Goals.{After-minus, After-pool_of-cell, After-towards_zero-kept, Start}
+use Rattle.spread.proofs.book.pay.Goals.{After-pool_of-cell, After-towards_zero-kept, Start}
 
 -- what is taken of a delta in range is in range
 negative_fits : (m n : ℕ) → m ≤ suc n → n < 2 ^ 63 → SFits w64 (neg_ℤ (pos m))
@@ -28,17 +28,22 @@ taken-fits : (z : ℤ) (a : ℕ) → SFits w64 z → SFits w64 (z -ℤ towards_z
 taken-fits (pos n) a f = let h = f.sfits in rw (taken_sign (pos n) a) (record { sfits = omega arith })
 taken-fits (negsuc n) a f = let h = f.sfits in rw (taken_sign (negsuc n) a) (negative_fits (min a (suc n)) n (omega arith) (omega arith))
 
+-- what is taken, as it is read back
+used_is : (z y : ℤ) (a : ℕ) → SFits w64 z → SFits w64 y → y ≡ towards_zero z a
+    → to_z w64 (of_z w64 (to_z w64 (of_z w64 z) -ℤ to_z w64 (of_z w64 y))) ≡ z -ℤ towards_zero z a
+used_is z y a f g e = rw (back z f, back y g, e) (back (z -ℤ towards_zero z a) (taken-fits z a f))
+
 -- the prompts that are lent
 abbrev lent : Start → Prompts
 lent s = prompts_in s.args.count s.args.tiers.now s.args.nets.now
 
 -- a net delta as it is read
-abbrev read : Start → ℕ → ℤ
-read s k = to_z w64 (of_z w64 (get_or s.args.nets.now k (pos 0)))
+abbrev read : List ℤ → ℕ → ℤ
+read zs k = to_z w64 (of_z w64 (get_or zs k (pos 0)))
 
 -- the prompt of a turn
 here : (c : After-pool_of-cell) →
-    Placed (open_of (lent (goal.at.offset_bounds-had-cell c).Start)) c.loop-k.k (read (goal.at.offset_bounds-had-cell c).Start c.loop-k.k) c.pool_of-cell.result
+    Placed (open_of (prompts_in c.args.count c.args.tiers.now c.args.nets.now)) c.loop-k.k (read c.args.nets.now c.loop-k.k) c.pool_of-cell.result
 here c =
     let l = c.loop-k in
     let z = get_or c.args.nets.now l.k (pos 0) in
@@ -51,22 +56,11 @@ within c = placed_within _ _ _ _ (here c)
 
 -- the part that is kept
 kept-is : (c : After-towards_zero-kept) →
-    c.towards_zero-kept.result ≡ towards_zero (read c.before.before.before.before.before.before.before.before.before.before.before.before c.loop-k.k) c.beyond-due.result
+    c.towards_zero-kept.result ≡ towards_zero (read c.args.nets.now c.loop-k.k) c.saturating_sub-due.result
 kept-is c =
-    let z = read c.before.before.before.before.before.before.before.before.before.before.before.before c.loop-k.k in
+    let z = read c.args.nets.now c.loop-k.k in
     let f : SFits w64 z = record { sfits = c.struct_told-1.given.0.1 } in
-    seen (λ (x : ℤ). towards_zero x c.beyond-due.result) z f c.towards_zero-kept.ensures
-
--- the part that is used
-used_is : (c : After-minus) →
-    let z = read (goal.at.offset_bounds-had-cell-in-loop-k c).Start c.loop-k.k in
-    c.minus.result ≡ z -ℤ towards_zero z c.beyond-due.result
-used_is c =
-    let z = read (goal.at.offset_bounds-had-cell-in-loop-k c).Start c.loop-k.k in
-    let y = c.towards_zero-kept.result in
-    let f : SFits w64 z = record { sfits = c.struct_told-in-loop-k-1.given.0.1 } in
-    let g : SFits w64 y = record { sfits = c.towards_zero-kept.type_inv } in
-    seen₂ (λ (a b : ℤ). a -ℤ b) z y f g c.minus.ensures ∙ ap (λ (x : ℤ). z -ℤ x) (kept-is (goal.at.offset_bounds-had-cell-in-loop-k c).After-towards_zero-kept)
+    seen (λ (x : ℤ). towards_zero x c.saturating_sub-due.result) z f c.towards_zero-kept.ensures
 
 pub loop-k-init : goal.loop-k-init
 loop-k-init c =
@@ -74,7 +68,6 @@ loop-k-init c =
     let cells = c.args.pools in
     let len : length cells ≡ pool_count = c.well_formed.1.1.1.0.1.0.1 in
     let none = paying_none cells c.args.left.now (open_of (lent at)) len in (
-      omega arith,
       few (lent at) c.requires.0,
       subst⁻¹ (λ (zs : List ℤ). Paying cells c.args.left.now (open_of (lent at)) 0 cells (deltas_from zs) (deltas_from c.args.unused.now))
           c.requires.1.1.1.0
@@ -94,15 +87,6 @@ offset_bounds-left-cell c = let h = within c in omega arith
 pub bounds-left-cell : goal.bounds-left-cell
 bounds-left-cell c =
     omega (arith, within (goal.at.bounds-left-cell c).After-pool_of-cell, c.requires.1.1.0)
-
-pub minus-requires : goal.minus-requires
-minus-requires c =
-    let at = goal.at.minus-requires c in
-    let y = c.towards_zero-kept.result in
-    let z = read at.Start c.loop-k.k in
-    let f : SFits w64 z = record { sfits = c.struct_told-in-loop-k-1.given.0.1 } in
-    rw (back y (record { sfits = c.towards_zero-kept.type_inv }), kept-is at.After-towards_zero-kept, back z f)
-    (taken-fits z c.beyond-due.result f)
 
 pub offset_bounds-had-cell-in-loop-k : goal.offset_bounds-had-cell-in-loop-k
 offset_bounds-had-cell-in-loop-k c =
@@ -127,22 +111,22 @@ loop-k-preserved c =
     let at = goal.at.loop-k-preserved c in
     let l = c.loop-k in
     let cell = c.pool_of-cell.result in
-    let x = c.minus.result in
+    let z = read c.args.nets.now l.k in
     let y = c.towards_zero-kept.result in
-    let used-back = back x (record { sfits = c.minus.type_inv }) in
-    let Kept-back = back y (record { sfits = c.towards_zero-kept.type_inv }) in (
-      omega arith,
-      l.invariant.1,
+    let f : SFits w64 z = record { sfits = c.struct_told-in-loop-k-1.given.0.1 } in
+    let g : SFits w64 y = record { sfits = c.towards_zero-kept.type_inv } in
+    let kept = kept-is at.After-towards_zero-kept in (
+      l.invariant.0,
       pay_next c.args.pools c.args.left.now (open_of (lent at.Start)) l.k l.had _ l.used l.unused _ cell
-          c.beyond-due.result _ _ (omega arith) (here at.After-pool_of-cell) c.beyond-due.ensures
-          (used-back ∙ used_is at.After-minus) (Kept-back ∙ kept-is at.After-towards_zero-kept)
-          (ap (set l.had cell) (c.beyond.ensures ∙ ap (λ (a : ℕ). get_or l.had cell 0 - a) c.size.ensures))
-          l.invariant.2,
+          c.saturating_sub-due.result _ _ (omega arith) (here at.After-pool_of-cell) c.saturating_sub-due.ensures
+          (used_is z y c.saturating_sub-due.result f g kept) (back y g ∙ kept)
+          (ap (set l.had cell) (c.saturating_sub.ensures ∙ ap (λ (a : ℕ). get_or l.had cell 0 - a) c.size.ensures))
+          l.invariant.1,
     )
 
 pub returns : goal.returns
 returns c =
     let l = c.loop-k in
     let p = lent (goal.at.returns c).Start in
-    let n = open_length p c.requires.1.0.0 (length-map c.args.nets.now _ ∙ c.requires.1.0.1) l.invariant.1 in
-    paying_all c.args.pools c.args.left.now (open_of p) l.k l.had (deltas_from l.used) (deltas_from l.unused) (omega arith) l.invariant.2
+    let n = open_length p c.requires.1.0.0 (length-map c.args.nets.now _ ∙ c.requires.1.0.1) l.invariant.0 in
+    paying_all c.args.pools c.args.left.now (open_of p) l.k l.had (deltas_from l.used) (deltas_from l.unused) (omega arith) l.invariant.1

@@ -1,6 +1,6 @@
 -- `pools_of`: the cells hold the pools of the prompts passed; none is more than the most of each.
 -- Assumes nothing.
-use Prim.Native.Nat.{◌-◌, ◌≤◌}
+use Prim.Native.Nat.{◌≤◌}
 use lib.ListN.{take}
 use Rattle.spread.specs.Accepted.{open_of, prompt_places}
 use Rattle.spread.specs.code.Cells.{Pooled}
@@ -8,7 +8,4 @@ use Rattle.spread.specs.code.Lent.{prompts_in}
 use Rattle.spread.proofs.book.pools_of.Given as goal
 
 abbrev pub invariant-loop-i : goal.invariant-loop-i
-invariant-loop-i l = (l.i ≤ l.count) × (l.count ≤ prompt_places) × Pooled l.cells (take l.i (open_of (prompts_in l.count l.tiers l.nets)))
-
-abbrev pub decreases-loop-i : goal.decreases-loop-i
-decreases-loop-i l = l.count - l.i
+invariant-loop-i l = (l.count ≤ prompt_places) × Pooled l.cells (take l.i (open_of (prompts_in l.count l.tiers l.nets)))

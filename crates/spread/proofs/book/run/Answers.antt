@@ -42,7 +42,7 @@ first_step c =
       | then-has_room w ↦ record { number = _; taken = taken_of false _ ok _ _ pools _ _ _ w.take-took.ensures (w.cells-is ∙ w.put_back.ensures); written = w.first-is }
       | else-has_room w ↦ written_none _ _ _ _ _ _
           (ap (ltb 0) (sym (lowest_of false _ ok _ _ pools)) ∙ sym c.has_room.ensures ∙ w.if-has_room.false)
-          w.cells-is w.first-is (none_yet _ l.i l.first l.invariant.3.firsts)
+          w.cells-is w.first-is (none_yet _ l.i l.first l.invariant.2.firsts)
     ]
 
 second-step : (c : Joined-has_room-2) →
@@ -57,20 +57,19 @@ second-step c =
       | then-has_room-2 w ↦ record { number = _; taken = taken_of true _ ok _ _ pools _ _ _ w.take-took-then-has_room-2.ensures (w.cells-is ∙ w.put_back-then-has_room-2.ensures); written = w.second-is }
       | else-has_room-2 w ↦ written_none _ _ _ _ _ _
           (ap (ltb 0) (sym (lowest_of true _ ok _ _ pools)) ∙ sym c.has_room-in-loop-i.ensures ∙ w.if-has_room-2.false)
-          w.cells-is w.second-is (none_yet _ l.i l.second l.invariant.3.seconds)
+          w.cells-is w.second-is (none_yet _ l.i l.second l.invariant.2.seconds)
     ]
 
 -- what the first step leaves is small
 between : (c : Joined-has_room) → Small c.if-has_room.cells
 between c =
     let l = c.loop-i in
-    small_taken _ l.cells _ _ (first_step c).taken l.invariant.2
+    small_taken _ l.cells _ _ (first_step c).taken l.invariant.1
 
 pub loop-i-init : goal.loop-i-init
 loop-i-init c =
     let cells = c.args.cells.now in
     let ss = table_spreads c.args.table in (
-      omega arith,
       few_in_table c.args.table c.requires.0,
       c.requires.1.0,
       subst⁻¹ (λ (ns : List ℕ). Running cells ss 0 cells (spreads_from ns) (spreads_from c.args.second.now)) c.requires.1.1.0
@@ -83,7 +82,7 @@ pools_for-pools-requires c = ((search rules), here (goal.at.pools_for-pools-requ
 
 pub take-took-requires : goal.take-took-requires
 take-took-requires c =
-    (here (goal.at.take-took-requires c).In-loop-i, pools_small _ _ _ _ c.pools_for-pools.ensures c.loop-i.invariant.2)
+    (here (goal.at.take-took-requires c).In-loop-i, pools_small _ _ _ _ c.pools_for-pools.ensures c.loop-i.invariant.1)
 
 pub put_back-requires : goal.put_back-requires
 put_back-requires c =
@@ -106,16 +105,15 @@ pub loop-i-preserved : goal.loop-i-preserved
 loop-i-preserved c =
     let at = goal.at.loop-i-preserved c in
     let l = c.loop-i in (
-      omega arith,
-      l.invariant.1,
+      l.invariant.0,
       small_taken _ _ _ _ (second-step c).taken (between at.Joined-has_room),
-      table_next c.args.table c.args.cells.now l.i l.cells _ _ l.first l.second _ _ _ (spreads at.Start) l.invariant.1
-          c.loop-i-test.true (first_step at.Joined-has_room) (second-step c) l.invariant.3,
+      table_next c.args.table c.args.cells.now l.i l.cells _ _ l.first l.second _ _ _ (spreads at.Start) l.invariant.0
+          c.loop-i-test.true (first_step at.Joined-has_room) (second-step c) l.invariant.2,
     )
 
 pub returns : goal.returns
 returns c =
     let l = c.loop-i in
     let t = c.args.table in
-    let n = table_length t (spreads (goal.at.returns c).Start) l.invariant.1 in
-    running_all c.args.cells.now (table_spreads t) l.i l.cells (spreads_from l.first) (spreads_from l.second) (omega arith) l.invariant.3
+    let n = table_length t (spreads (goal.at.returns c).Start) l.invariant.0 in
+    running_all c.args.cells.now (table_spreads t) l.i l.cells (spreads_from l.first) (spreads_from l.second) (omega arith) l.invariant.2

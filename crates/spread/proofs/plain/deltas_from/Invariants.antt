@@ -1,6 +1,5 @@
 -- `deltas_from`: each number as a delta.
 -- Assumes nothing.
-use Prim.Native.Nat.{◌-◌, ◌≤◌}
 use lib.IntN.{pos}
 use lib.ListN.{get_or}
 use Rattle.spread.specs.Accepted.{prompt_places}
@@ -9,7 +8,4 @@ use Rattle.spread.proofs.Gathering.{no_delta}
 use Rattle.spread.proofs.plain.deltas_from.Given as goal
 
 abbrev pub invariant-loop-k : goal.invariant-loop-k
-invariant-loop-k l = (l.k ≤ prompt_places) × Filled prompt_places no_delta (λ j. record { 0 = get_or l.numbers j (pos 0) }) l.k l.deltas
-
-abbrev pub decreases-loop-k : goal.decreases-loop-k
-decreases-loop-k l = prompt_places - l.k
+invariant-loop-k l = Filled prompt_places no_delta (λ j. record { 0 = get_or l.fn.numbers j (pos 0) }) l.k l.deltas

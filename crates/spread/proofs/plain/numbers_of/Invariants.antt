@@ -1,6 +1,5 @@
 -- `numbers_of`: the number of each.
 -- Assumes nothing.
-use Prim.Native.Nat.{◌-◌, ◌≤◌}
 use lib.ListN.{get_or}
 use Rattle.spread.specs.Accepted.{spread_places}
 use Rattle.spread.proofs.Filling.{Filled}
@@ -8,7 +7,4 @@ use Rattle.spread.proofs.Running.{no_spreads}
 use Rattle.spread.proofs.plain.numbers_of.Given as goal
 
 abbrev pub invariant-loop-i : goal.invariant-loop-i
-invariant-loop-i l = (l.i ≤ spread_places) × Filled spread_places 0 (λ j. (get_or l.spreads j no_spreads).0) l.i l.numbers
-
-abbrev pub decreases-loop-i : goal.decreases-loop-i
-decreases-loop-i l = spread_places - l.i
+invariant-loop-i l = Filled spread_places 0 (λ j. (get_or l.fn.spreads j no_spreads).0) l.i l.numbers

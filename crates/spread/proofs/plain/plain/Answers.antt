@@ -2,9 +2,7 @@ use native.Mathlib.Omega.{arith}
 use mathlib.Core.Path.{◌≡◌}
 use lib.IntN.{pos}
 use lib.ListN.{length, get_or}
-use mir.Syntax.{w64}
-use mir.Val.{SFits}
-use Rattle.exact.proofs.Integers.{back}
+use borrow.Author.Rules.{rules}
 use Rattle.spread.specs.Accepted.{prompt_places}
 use Rattle.spread.specs.declared.Delta.{Delta}
 use Rattle.spread.proofs.Filling.{filled_none, filled_next}
@@ -13,21 +11,18 @@ use Rattle.spread.proofs.Lent.{filled-from}
 use Rattle.spread.proofs.plain.plain.Goals as goal
 
 pub loop-k-init : goal.loop-k-init
-loop-k-init c = (omega arith, filled_none prompt_places (pos 0) (λ j. (get_or c.args.deltas j no_delta).0))
+loop-k-init c = filled_none prompt_places (pos 0) (λ j. (get_or c.args.deltas j no_delta).0)
 
 pub loop-k-preserved : goal.loop-k-preserved
 loop-k-preserved c =
     let l = c.loop-k in
     let ds = c.args.deltas in
-    let own : SFits w64 (get_or ds l.k no_delta).0 = record { sfits = c.struct_told-1.given.0.1 } in (
-      omega arith,
-      filled_next prompt_places (pos 0) (λ j. (get_or ds j no_delta).0) l.k l.numbers _ l.invariant.1 (omega arith)
-          (back (get_or ds l.k no_delta).0 own),
-    )
+    filled_next prompt_places (pos 0) (λ j. (get_or ds j no_delta).0) l.k l.numbers _ l.invariant (omega arith)
+    (search rules)
 
 pub returns : goal.returns
 returns c =
     let l = c.loop-k in
     let ds = c.args.deltas in
     let len : length ds ≡ prompt_places = c.well_formed.0.1.0.1 in
-    filled-from (λ (d : Delta). d.0) prompt_places no_delta ds l.k l.numbers len (omega arith) l.invariant.1
+    filled-from (λ (d : Delta). d.0) prompt_places no_delta ds l.k l.numbers len (omega arith) l.invariant

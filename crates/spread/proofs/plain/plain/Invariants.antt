@@ -1,6 +1,5 @@
 -- `plain`: the number of each delta.
 -- Assumes nothing.
-use Prim.Native.Nat.{◌-◌, ◌≤◌}
 use lib.IntN.{pos}
 use lib.ListN.{get_or}
 use Rattle.spread.specs.Accepted.{prompt_places}
@@ -9,7 +8,4 @@ use Rattle.spread.proofs.Gathering.{no_delta}
 use Rattle.spread.proofs.plain.plain.Given as goal
 
 abbrev pub invariant-loop-k : goal.invariant-loop-k
-invariant-loop-k l = (l.k ≤ prompt_places) × Filled prompt_places (pos 0) (λ j. (get_or l.deltas j no_delta).0) l.k l.numbers
-
-abbrev pub decreases-loop-k : goal.decreases-loop-k
-decreases-loop-k l = prompt_places - l.k
+invariant-loop-k l = Filled prompt_places (pos 0) (λ j. (get_or l.fn.deltas j no_delta).0) l.k l.numbers

@@ -9,17 +9,15 @@ use Rattle.spread.proofs.Lent.{filled-from}
 use Rattle.spread.proofs.plain.spreads_from.Goals as goal
 
 pub loop-i-init : goal.loop-i-init
-loop-i-init c = (omega arith, filled_none spread_places no_spreads (λ j. record { 0 = get_or c.args.numbers j 0 }))
+loop-i-init c = filled_none spread_places no_spreads (λ j. record { 0 = get_or c.args.numbers j 0 })
 
 pub loop-i-preserved : goal.loop-i-preserved
 loop-i-preserved c =
     let l = c.loop-i in
-    let ns = c.args.numbers in (
-      omega arith,
-      filled_next spread_places no_spreads (λ j. record { 0 = get_or ns j 0 }) l.i l.spreads _ l.invariant.1 (omega arith) refl,
-    )
+    let ns = c.args.numbers in
+    filled_next spread_places no_spreads (λ j. record { 0 = get_or ns j 0 }) l.i l.spreads _ l.invariant (omega arith) refl
 
 pub returns : goal.returns
 returns c =
     let l = c.loop-i in
-    filled-from (λ (n : ℕ). record { 0 = n }) spread_places 0 c.args.numbers l.i l.spreads c.well_formed.0.1.0.1 (omega arith) l.invariant.1
+    filled-from (λ (n : ℕ). record { 0 = n }) spread_places 0 c.args.numbers l.i l.spreads c.well_formed.0.1.0.1 (omega arith) l.invariant

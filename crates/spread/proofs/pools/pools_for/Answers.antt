@@ -3,36 +3,19 @@
 use mathlib.Core.Path.{◌≡◌}
 use lib.ListN.{length}
 use borrow.Author.Rules.{rules}
-use Rattle.spread.proofs.Soundness.{first_leg_lem, second_leg_lem, third_leg_lem, has_three}
+use Rattle.spread.proofs.Soundness.{second_leg_lem, third_leg_lem, has_three}
 use Rattle.spread.proofs.pools.pools_for.Goals as goal
 use Rattle.spread.proofs.pools.pools_for.Goals.{Start}
 
 legs : (s : Start) → length s.args.spread.leg ≡ 3
 legs s = search rules
 
-pub pool_for-one-requires : goal.pool_for-one-requires
-pool_for-one-requires c = (c.requires.0, first_leg_lem c.args.spread _ (legs (goal.at.pool_for-one-requires c).Start) c.requires.1)
-
 pub pool_for-two-requires : goal.pool_for-two-requires
 pool_for-two-requires c =
     (c.requires.0, second_leg_lem c.args.spread _ (legs (goal.at.pool_for-two-requires c).Start) c.requires.1)
-
-pub returns-then-spread-eq2 : goal.returns-then-spread-eq2
-returns-then-spread-eq2 c =
-    let one = c.pool_for-one.ensures in
-    record { places = legs (goal.at.returns-then-spread-eq2 c).Start; one = one; two = c.pool_for-two.ensures; three = rw c.if-spread-eq2.true one }
 
 pub pool_for-three-requires : goal.pool_for-three-requires
 pool_for-three-requires c = (
   c.requires.0,
   third_leg_lem c.args.spread _ (legs (goal.at.pool_for-three-requires c).Start) c.requires.1 (has_three c.args.spread c.requires.1 c.if-spread-eq2.false),
 )
-
-pub returns : goal.returns
-returns c =
-    record {
-      places = legs (goal.at.returns c).Start;
-      one = c.pool_for-one.ensures;
-      two = c.pool_for-two.ensures;
-      three = rw (has_three c.args.spread c.requires.1 c.if-spread-eq2.false) c.pool_for-three.ensures;
-    }

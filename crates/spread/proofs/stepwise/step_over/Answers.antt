@@ -70,14 +70,6 @@ take-took-requires c =
           (pooled_small (lent at) _ (tiers at) (length-map c.plain-nets.result _ ∙ numbers at) (sound-lent at) c.pools_of-pools.ensures),
     )
 
-pub put_back-requires : goal.put_back-requires
-put_back-requires c =
-    (c.pools_of-pools.ensures.size, sound-given (goal.at.put_back-requires c).After-plain-nets)
-
-pub slice_bounds-pay-end : goal.slice_bounds-pay-end
-slice_bounds-pay-end c =
-    sym (tiers (goal.at.slice_bounds-pay-end c).After-plain-nets)
-
 pub pay-requires : goal.pay-requires
 pay-requires c =
     let at = (goal.at.pay-requires c).After-plain-nets in
@@ -94,5 +86,5 @@ returns c =
     (subst (λ (q : Prompts). Pooled cells (open_of q)) (same at) c.pools_of-pools.ensures)
     (taken_of s.second s.spread (sound-given at) cells _ c.pools_for.ensures _ _ _ c.take-took.ensures
     c.put_back.ensures)
-    (subst (λ (q : Prompts). Spent cells left (open_of q) c.deltas_from-taken.result c.deltas_from-kept.result) (same at)
-    (record { useds = c.deltas_from-taken.ensures ∙ spent.useds; unuseds = c.deltas_from-kept.ensures ∙ spent.unuseds }))
+    (subst (λ (q : Prompts). Spent cells left (open_of q) c.deltas_from.result c.deltas_from-2.result) (same at)
+    (record { useds = c.deltas_from.ensures ∙ spent.useds; unuseds = c.deltas_from-2.ensures ∙ spent.unuseds }))

@@ -42,25 +42,24 @@ pub loop-k-init : goal.loop-k-init
 loop-k-init c =
     let at = (goal.at.loop-k-init c).Start in
     let r = c.requires.1.1 in (
-      omega arith,
       few (lent at) c.requires.0,
       laying_none (open_of (lent at)) c.args.pool.now c.args.size.now c.args.at.now r.0 r.1.0 r.1.1,
     )
 
 pub bounds-pool-k : goal.bounds-pool-k
 bounds-pool-k c =
-    let l = c.loop-k in omega (arith, l.invariant.0, l.invariant.1, l.invariant.2.pools, c.loop-k-test.true)
+    let l = c.loop-k in omega (arith, l.invariant.0, l.invariant.1.pools, c.loop-k-test.true)
 
 pub bounds-size-k : goal.bounds-size-k
 bounds-size-k c =
-    let l = c.loop-k in omega (arith, l.invariant.0, l.invariant.1, l.invariant.2.sizes, c.loop-k-test.true)
+    let l = c.loop-k in omega (arith, l.invariant.0, l.invariant.1.sizes, c.loop-k-test.true)
 
 pub offset_bounds-at-cell : goal.offset_bounds-at-cell
 offset_bounds-at-cell c = let h = within (goal.at.offset_bounds-at-cell c).After-pool_of-cell in omega arith
 
 pub bounds-at-cell : goal.bounds-at-cell
 bounds-at-cell c =
-    omega (arith, within (goal.at.bounds-at-cell c).After-pool_of-cell, c.loop-k.invariant.2.places)
+    omega (arith, within (goal.at.bounds-at-cell c).After-pool_of-cell, c.loop-k.invariant.1.places)
 
 pub offset_bounds-at-cell-in-loop-k : goal.offset_bounds-at-cell-in-loop-k
 offset_bounds-at-cell-in-loop-k c =
@@ -69,7 +68,7 @@ offset_bounds-at-cell-in-loop-k c =
 
 pub bounds-at-cell-in-loop-k : goal.bounds-at-cell-in-loop-k
 bounds-at-cell-in-loop-k c =
-    omega (arith, within (goal.at.bounds-at-cell-in-loop-k c).After-pool_of-cell, c.loop-k.invariant.2.places)
+    omega (arith, within (goal.at.bounds-at-cell-in-loop-k c).After-pool_of-cell, c.loop-k.invariant.1.places)
 
 pub loop-k-preserved : goal.loop-k-preserved
 loop-k-preserved c =
@@ -77,18 +76,17 @@ loop-k-preserved c =
     let l = c.loop-k in
     let q = open_of (lent at.Start) in
     let cell = c.pool_of-cell.result in (
-      omega arith,
-      l.invariant.1,
-      subst (λ (a : ℕ). Laying q (l.k + 1) (set l.pool l.k cell) (set l.size l.k a) (set l.at cell c.earlier.result))
+      l.invariant.0,
+      subst (λ (a : ℕ). Laying q (l.k + 1) (set l.pool l.k cell) (set l.size l.k a) (set l.at cell c.min.result))
           (sym c.size.ensures)
           (subst (λ (a : ℕ). Laying q (l.k + 1) (set l.pool l.k cell) (set l.size l.k (nat_abs (read at.Start l.k))) (set l.at cell a))
-          (sym c.earlier.ensures)
-          (laying_next q l.k _ cell (here at.After-pool_of-cell) l.pool l.size l.at (omega arith) l.invariant.2)),
+          (sym c.min.ensures)
+          (laying_next q l.k _ cell (here at.After-pool_of-cell) l.pool l.size l.at (omega arith) l.invariant.1)),
     )
 
 pub returns : goal.returns
 returns c =
     let l = c.loop-k in
     let p = lent (goal.at.returns c).Start in
-    let n = open_length p c.requires.1.0.0 (length-map c.args.nets.now _ ∙ c.requires.1.0.1) l.invariant.1 in
-    laying_all (open_of p) l.k l.pool l.size l.at (omega (arith, n, c.loop-k-test.false, l.invariant.0)) (omega arith) l.invariant.2
+    let n = open_length p c.requires.1.0.0 (length-map c.args.nets.now _ ∙ c.requires.1.0.1) l.invariant.0 in
+    laying_all (open_of p) l.k l.pool l.size l.at (omega (arith, n, c.loop-k-test.false)) (omega arith) l.invariant.1

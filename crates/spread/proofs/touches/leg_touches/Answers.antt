@@ -14,7 +14,7 @@ most c =
     omega (arith, c.cell_for-cell.ensures, cell_most (market_in c.args.second c.args.leg.side) c.args.leg.tier)
 
 pub offset_bounds-at-cell : goal.offset_bounds-at-cell
-offset_bounds-at-cell c = let h = most c in omega arith
+offset_bounds-at-cell c = let h = most (goal.at.offset_bounds-at-cell c).After-cell_for-cell in omega arith
 
 pub bounds-at-cell : goal.bounds-at-cell
 bounds-at-cell c =

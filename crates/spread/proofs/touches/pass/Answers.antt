@@ -29,7 +29,7 @@ pub overflow_add-touches : goal.overflow_add-touches
 overflow_add-touches c =
     let l = c.loop-due in
     let f = touches_few c.args.cell c.args.wanted c.args.pool.now c.args.size.now l.due l.k l.size l.touches l.invariant in
-    let o = one_most (ltb 0 c.gives-given.result) c.one_if-touches.result c.one_if-touches.ensures in
+    let o = one_most (ltb 0 c.gives-given.result) c.from-touches.result c.from-touches.ensures in
     omega (arith, f, o, c.requires.0)
 
 pub loop-due-smaller : goal.loop-due-smaller
@@ -42,9 +42,9 @@ pub loop-due-preserved : goal.loop-due-preserved
 loop-due-preserved c =
     let l = c.loop-due in
     pass_turn c.args.cell c.args.wanted c.args.pool.now c.args.size.now l.due l.k l.size l.touches
-    c.gives-given.result c.further-k.result c.one_if-touches.result
+    c.gives-given.result c.further-k.result c.from-touches.result
     (omega (arith, place (goal.at.loop-due-preserved c).In-loop-due, c.requires.0)) (c.requires.0 ∙ sym c.requires.1)
-    c.gives-given.ensures c.further-k.ensures c.one_if-touches.ensures l.invariant
+    c.gives-given.ensures c.further-k.ensures c.from-touches.ensures l.invariant
 
 pub shape_of-size : goal.shape_of-size
 shape_of-size c = c.loop-due.invariant.size

@@ -43,7 +43,7 @@ first_step c =
       | then-has_room w ↦ record { number = _; taken = taken_of false _ ok _ _ pools _ _ _ w.take-took.ensures (w.cells-is ∙ w.put_back.ensures); written = w.first-is }
       | else-has_room w ↦ written_none _ _ _ _ _ _
           (ap (ltb 0) (sym (lowest_of false _ ok _ _ pools)) ∙ sym c.has_room.ensures ∙ w.if-has_room.false)
-          w.cells-is w.first-is (none_yet _ l.i l.first l.invariant.3.firsts)
+          w.cells-is w.first-is (none_yet _ l.i l.first l.invariant.2.firsts)
     ]
 
 second-step : (c : Joined-has_room-2) →
@@ -58,14 +58,14 @@ second-step c =
       | then-has_room-2 w ↦ record { number = _; taken = taken_of true _ ok _ _ pools _ _ _ w.take-took-then-has_room-2.ensures (w.cells-is ∙ w.put_back-then-has_room-2.ensures); written = w.second-is }
       | else-has_room-2 w ↦ written_none _ _ _ _ _ _
           (ap (ltb 0) (sym (lowest_of true _ ok _ _ pools)) ∙ sym c.has_room-in-loop-i.ensures ∙ w.if-has_room-2.false)
-          w.cells-is w.second-is (none_yet _ l.i l.second l.invariant.3.seconds)
+          w.cells-is w.second-is (none_yet _ l.i l.second l.invariant.2.seconds)
     ]
 
 -- what the first step leaves is small
 between : (c : Joined-has_room) → Small c.if-has_room.cells
 between c =
     let l = c.loop-i in
-    small_taken _ l.cells _ _ (first_step c).taken l.invariant.2
+    small_taken _ l.cells _ _ (first_step c).taken l.invariant.1
 
 -- the turn, when both steps are taken or left out
 module _ (c : Joined-has_room-2)
@@ -74,8 +74,8 @@ module _ (c : Joined-has_room-2)
       (spreads_from c.if-has_room.first) (spreads_from c.if-has_room-2.second)
   running =
       let l = c.loop-i in
-      table_next c.args.table c.args.cells.now l.i l.cells _ _ l.first l.second _ _ _ (search rules) l.invariant.1
-      c.loop-i-test.true first (second-step c) l.invariant.3
+      table_next c.args.table c.args.cells.now l.i l.cells _ _ l.first l.second _ _ _ (search rules) l.invariant.0
+      c.loop-i-test.true first (second-step c) l.invariant.2
 
   first-formed : get_or c.if-has_room.first c.loop-i.i 0
       ≡ get_or (numbers_over (steps_of c.args.table) c.args.cells.now) (2 * c.loop-i.i) 0
@@ -94,7 +94,6 @@ pub loop-i-init : goal.loop-i-init
 loop-i-init c =
     let cells = c.args.cells.now in
     let ss = table_spreads c.args.table in (
-      omega arith,
       few_in_table c.args.table c.requires.0,
       c.requires.1.0,
       subst⁻¹ (λ (ns : List ℕ). Running cells ss 0 cells (spreads_from ns) (spreads_from c.args.second.now)) c.requires.1.1.0.0
@@ -110,7 +109,7 @@ pools_for-pools-requires c = ((search rules), here (goal.at.pools_for-pools-requ
 
 pub take-took-requires : goal.take-took-requires
 take-took-requires c =
-    (here (goal.at.take-took-requires c).In-loop-i, pools_small _ _ _ _ c.pools_for-pools.ensures c.loop-i.invariant.2)
+    (here (goal.at.take-took-requires c).In-loop-i, pools_small _ _ _ _ c.pools_for-pools.ensures c.loop-i.invariant.1)
 
 pub put_back-requires : goal.put_back-requires
 put_back-requires c =
@@ -129,38 +128,37 @@ pub put_back-requires-then-has_room-2 : goal.put_back-requires-then-has_room-2
 put_back-requires-then-has_room-2 c =
     ((search rules), here (goal.at.put_back-requires-then-has_room-2 c).In-loop-i)
 
-pub step_touches-one-requires : goal.step_touches-one-requires
-step_touches-one-requires c =
-    let at = goal.at.step_touches-one-requires c in
-    (c.loop-i.invariant.5, number_small at.Start (2 * c.loop-i.i) _ (first-formed at.Joined-has_room-2 (first_step at.Joined-has_room)))
+pub step_touches-by_first-requires : goal.step_touches-by_first-requires
+step_touches-by_first-requires c =
+    let at = goal.at.step_touches-by_first-requires c in
+    (c.loop-i.invariant.4, number_small at.Start (2 * c.loop-i.i) _ (first-formed at.Joined-has_room-2 (first_step at.Joined-has_room)))
 
-pub step_touches-two-requires : goal.step_touches-two-requires
-step_touches-two-requires c =
-    let at = goal.at.step_touches-two-requires c in
-    (c.step_touches-one.ensures.ready, number_small at.Start (2 * c.loop-i.i + 1) _ (second-formed at.Joined-has_room-2 (first_step at.Joined-has_room)))
+pub step_touches-by_second-requires : goal.step_touches-by_second-requires
+step_touches-by_second-requires c =
+    let at = goal.at.step_touches-by_second-requires c in
+    (c.step_touches-by_first.ensures.ready, number_small at.Start (2 * c.loop-i.i + 1) _ (second-formed at.Joined-has_room-2 (first_step at.Joined-has_room)))
 
 pub loop-i-preserved : goal.loop-i-preserved
 loop-i-preserved c =
-    let one = c.step_touches-one in
-    let two = c.step_touches-two in
+    let one = c.step_touches-by_first in
+    let two = c.step_touches-by_second in
     let l = c.loop-i in
     let at = goal.at.loop-i-preserved c in
     let j = at.Joined-has_room-2 in
     let first = first_step at.Joined-has_room in (
-      omega (arith, c.loop-i-test.true),
-      l.invariant.1,
+      l.invariant.0,
       small_taken _ _ _ _ (second-step j).taken (between at.Joined-has_room),
       running j first,
-      omega (arith, two.ensures.few, one.ensures.few, l.invariant.4),
+      omega (arith, two.ensures.few, one.ensures.few, l.invariant.3),
       two.ensures.ready,
       λ ps h e.
-          table_counting c.args.table ps l.i _ _ _ _ _ _ _ _ _ _ _ _ (search rules) l.invariant.1 c.loop-i-test.true
+          table_counting c.args.table ps l.i _ _ _ _ _ _ _ _ _ _ _ _ (search rules) l.invariant.0 c.loop-i-test.true
           (first-formed j first ∙ ap (λ (ns : List ℕ). get_or ns (2 * l.i) 0) e) (second-formed j first ∙ ap (λ (ns : List ℕ). get_or ns (2 * l.i + 1) 0) e)
-          one.ensures two.ensures (l.invariant.6 ps h e),
+          one.ensures two.ensures (l.invariant.5 ps h e),
     )
 
 pub returns : goal.returns
 returns c =
     let l = c.loop-i in
     let t = c.args.table in
-    let n = table_length t (spreads (goal.at.returns c).Start) l.invariant.1 in record { run = running_all c.args.cells.now (table_spreads t) l.i l.cells (spreads_from l.first) (spreads_from l.second) (omega arith) l.invariant.3; counted = λ ps h e. counting_all (table_spreads t) ps l.i _ _ _ (omega (arith, n, c.loop-i-test.false)) (l.invariant.6 ps h e) }
+    let n = table_length t (spreads (goal.at.returns c).Start) l.invariant.0 in record { run = running_all c.args.cells.now (table_spreads t) l.i l.cells (spreads_from l.first) (spreads_from l.second) (omega arith) l.invariant.2; counted = λ ps h e. counting_all (table_spreads t) ps l.i _ _ _ (omega (arith, n, c.loop-i-test.false)) (l.invariant.5 ps h e) }

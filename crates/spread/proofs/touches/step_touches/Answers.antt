@@ -16,5 +16,5 @@ returns c =
     let l : length c.args.spread.leg ≡ 3 = search rules in
     step_taken c.args.second c.args.spread _ _ _ (three _ c.args.spread.leg l) c.args.number c.args.pool.now
     c.args.size.now _ _ _ _ _ _ _ _ _ _ _ _
-    c.wanted_by.ensures c.wanted_by-2.ensures c.wanted_by-3.ensures
+    c.wanted_by-one_wants.ensures c.wanted_by-two_wants.ensures c.wanted_by-three_wants.ensures
     c.leg_touches-a.ensures c.leg_touches-b.ensures c.leg_touches-c.ensures

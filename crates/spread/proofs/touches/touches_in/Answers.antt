@@ -46,7 +46,6 @@ lay-requires c = (
 
 pub loop-i-init : goal.loop-i-init
 loop-i-init c = (
-  omega arith,
   few (goal.at.loop-i-init c).Start,
   omega arith,
   record { places = search rules; pools = search rules; sizes = search rules; begun = c.lay.ensures.1 },
@@ -57,7 +56,7 @@ pub step_touches-one-requires : goal.step_touches-one-requires
 step_touches-one-requires c =
     let s = (goal.at.step_touches-one-requires c).Start in
     let i = c.loop-i.i in
-    (c.loop-i.invariant.3, number_small s (2 * i) _ (formed s i (omega arith)).0)
+    (c.loop-i.invariant.2, number_small s (2 * i) _ (formed s i (omega arith)).0)
 
 pub step_touches-two-requires : goal.step_touches-two-requires
 step_touches-two-requires c =
@@ -71,15 +70,14 @@ loop-i-preserved c =
     let one = c.step_touches-one in
     let l = c.loop-i in
     let s = (goal.at.loop-i-preserved c).Start in (
-      omega (arith, c.loop-i-test.true),
-      l.invariant.1,
-      omega (arith, two.ensures.few, one.ensures.few, l.invariant.2),
+      l.invariant.0,
+      omega (arith, two.ensures.few, one.ensures.few, l.invariant.1),
       two.ensures.ready,
       λ ps h f.
           let formed = f l.i (omega arith) in
           table_counting c.args.table ps l.i _ _ _ _ _ _ _ _ _ _ _ _ (tables s) (few s)
           c.loop-i-test.true formed.0 formed.1
-          one.ensures two.ensures (l.invariant.4 ps h f),
+          one.ensures two.ensures (l.invariant.3 ps h f),
     )
 
 pub returns : goal.returns
@@ -88,4 +86,4 @@ returns c =
     let s = (goal.at.returns c).Start in
     let n = table_length c.args.table (tables s) (few s) in
     counting_all (table_spreads c.args.table) (open_of (lent s)) l.i _ _ _ (omega (arith, n, c.loop-i-test.false))
-    (l.invariant.4 (open_of (lent s)) c.lay.ensures.0 (formed s))
+    (l.invariant.3 (open_of (lent s)) c.lay.ensures.0 (formed s))

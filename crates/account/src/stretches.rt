@@ -57,7 +57,8 @@ pub(crate) fn whole_before(file: &[u8], k: usize) -> &[u8]
     ensures { result.now ≡ before_at file.now k }
 {
     if k == 0 {
-        return &file[..0];
+        &file[..0]
+    } else {
+        whole_at(file, k - 1)
     }
-    whole_at(file, k - 1)
 }

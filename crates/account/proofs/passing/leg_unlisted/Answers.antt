@@ -3,4 +3,4 @@
 use Rattle.account.proofs.passing.leg_unlisted.Goals as goal
 
 pub returns : goal.returns
-returns c = rw c.leg_tier_in-t.ensures.0
+returns c = rw c.leg_tier_in.ensures.0

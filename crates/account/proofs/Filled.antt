@@ -52,8 +52,8 @@ module _ {F A B : Type 0} {g : Mut F (A × Unit {0}) B} (f : F) (h : A → B)
       let gave = gives made.1 made.2 made.0 made.5 in
       let rest = subst (λ (q : F). MapsFrom g q xs ys (i + 1) n) gave.0 made.6 in
       elim (ℕ_discrete k i) [
-        yes e ↦ ap (λ (m : ℕ). get_or ys m (h d)) e ∙ made.4.1 (h d) ∙ gave.1 ∙ ap h (sym (made.3.1 d)) ∙ ap (λ (m : ℕ). h (get_or xs m d)) (sym e)
-      | no e ↦ mapped_at n (i + 1) rest k (omega (arith, e)) (omega arith)
+        | yes e ↦ ap (λ (m : ℕ). get_or ys m (h d)) e ∙ made.4.1 (h d) ∙ gave.1 ∙ ap h (sym (made.3.1 d)) ∙ ap (λ (m : ℕ). h (get_or xs m d)) (sym e)
+        | no e ↦ mapped_at n (i + 1) rest k (omega (arith, e)) (omega arith)
       ]
 
   pub mapped : (n : ℕ) → length xs ≡ n → IsMapOf g f xs ys n → ys ≡ map h xs

@@ -5,8 +5,8 @@ use native.Mathlib.Omega.{arith}
 use mathlib.Core.Path.{◌≡◌, refl, sym, ap, ◌∙◌}
 use mathlib.Core.Bool.{Bool, true, false}
 use mathlib.Core.List.{List, [], ◌∷◌, ◌++◌, map, append_assoc}
-use lib.ListN.{length, get_or, set, take, drop, length-take, length-set, length-map}
-use lib.ListN.{get_or-eq_default, get_or-map}
+use lib.ListN.{length, get_or, set, take, drop, length-set, length-map}
+use lib.ListN.{get_or-map}
 use lib.Seq.{get_or-take, get_or-drop, take_at, drop_at, drop-drop, take_all}
 use borrow.Rule.Slice.PartMut.{put_mid}
 use Rattle.std.proofs.lemmas.List.Edits.{length-paste}

@@ -2,14 +2,8 @@
 -- Assumes nothing.
 use mathlib.Core.Path.{refl}
 use native.Mathlib.Omega.{arith}
-use Rattle.account.specs.Joined.{account_of}
-use Rattle.account.proofs.Standing.{part_past, part_stands}
+use Rattle.account.proofs.Standing.{part_stands}
 use Rattle.account.proofs.accounts.placed_part.Goals as goal
-
-pub returns-then-v-gt-RATES : goal.returns-then-v-gt-RATES
-returns-then-v-gt-RATES c =
-    let s = c.args in
-    part_past (account_of s.morning.now s.noon.now) s.v c.if-v-gt-RATES.true
 
 pub returns : goal.returns
 returns c =

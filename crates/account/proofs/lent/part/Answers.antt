@@ -9,16 +9,10 @@ use lib.Dec.{ltb}
 use Rattle.account.specs.Check.{most_contracts}
 use Rattle.account.specs.PartNumbers.{parts, entry_part}
 use Rattle.account.specs.Records.{stretch}
-use Rattle.account.specs.Joined.{account_of}
 use Rattle.account.specs.code.Lent.{late_note, flagged, account_in}
 use Rattle.account.proofs.LentLaws.{read_late, read_first, read_count}
-use Rattle.account.proofs.Standing.{part_past, part_stands}
+use Rattle.account.proofs.Standing.{part_stands}
 use Rattle.account.proofs.lent.part.Goals as goal
-
-pub returns-then-v-gt-RATES : goal.returns-then-v-gt-RATES
-returns-then-v-gt-RATES c =
-    let s = c.args in
-    part_past (account_of s.morning.now s.noon.now) s.v c.if-v-gt-RATES.true
 
 pub returns : goal.returns
 returns c =

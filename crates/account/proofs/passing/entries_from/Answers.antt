@@ -3,12 +3,8 @@ use mathlib.Core.Path.{sym, ◌∙◌}
 use native.Mathlib.Omega.{arith}
 use Rattle.std.proofs.Common.{rules}
 use Rattle.account.specs.Check.{kind_falls}
-use Rattle.account.proofs.Runs.{none_run, entries_run}
+use Rattle.account.proofs.Runs.{entries_run}
 use Rattle.account.proofs.passing.entries_from.Goals as goal
-
-pub returns-then-kind_falls : goal.returns-then-kind_falls
-returns-then-kind_falls c =
-    none_run c.args.file.now c.args.first.now c.args.counts.now c.args.k (omega (arith, c.requires.0))
 
 pub returns : goal.returns
 returns c =

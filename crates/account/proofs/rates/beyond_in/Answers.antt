@@ -13,6 +13,13 @@ use Rattle.exact.proofs.SignedCalls.{abs_times}
 use Rattle.account.specs.Products.{converted_at, most_conversion}
 use Rattle.account.proofs.rates.beyond_in.Goals as goal
 
+pub converted-requires : goal.converted-requires
+converted-requires c =
+    let s = c.args in
+    let few : nat_abs (s.each *ℤ s.loss) ≤ most_conversion = abs_times s.each s.loss c.requires.0 c.requires.1.0 in
+    let fits : SFits w64 (s.each *ℤ s.loss) = sfits_abs (s.each *ℤ s.loss) (omega (arith, few)) in
+    (search rules, c.requires.1.1)
+
 pub returns : goal.returns
 returns c =
     let s = c.args in

@@ -130,7 +130,7 @@ pub fn spreads_part<'a>(morning: &'a [u8], noon: &'a [u8], w: Whereabouts) -> &'
 pub fn nothing_of(file: &[u8]) -> &[u8]
     ensures { result.now ≡ [] }
 {
-    &file[0..0]
+    &file[..0]
 }
 
 // Whichever file supplies a contract.
@@ -165,24 +165,7 @@ fn lists(counts: &[u16], c: usize) -> bool
     noted(counts, OWN + c) != 0
 }
 
-// What is noted of the parts of one kind in whichever file supplies each, in the place of the morning's notes.
-fn either_kind(
-    notes: &mut [u16; PARTS],
-    noon: &[u16; PARTS],
-    late: &[bool; CONTRACTS],
-    start: usize,
-)
-    requires { (start % most_contracts ≡ 0) × (start < entry_part) }
-    ensures { (morning : List ℕ) → EitherTo morning noon.now late.now start notes.old
-        → EitherTo morning noon.now late.now (start + most_contracts) notes.new }
-{
-    for c in 0..CONTRACTS {
-        let v = start + c;
-        notes[v] = if late[c] { noon[v] } else { notes[v] };
-    }
-}
-
-// The same of every kind that the noon file may supply. The notes are an array of this function's own, so that several are chosen at once.
+// What is noted of each part in whichever file supplies it. The notes are an array of this function's own, so that several are chosen at once.
 fn either_notes(
     morning: &[u16; PARTS],
     noon: &[u16; PARTS],
@@ -193,7 +176,10 @@ fn either_notes(
 {
     let mut notes = *morning;
     for kind in 0..ENTRIES / CONTRACTS {
-        either_kind(&mut notes, noon, late, CONTRACTS * kind);
+        for c in 0..CONTRACTS {
+            let v = CONTRACTS * kind + c;
+            notes[v] = if late[c] { noon[v] } else { notes[v] };
+        }
     }
     notes
 }

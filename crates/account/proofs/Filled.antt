@@ -6,13 +6,13 @@ use native.Mathlib.Decide.{ℕ_discrete}
 use native.Mathlib.Omega.{arith}
 use mathlib.Core.Path.{◌≡◌, refl, sym, ap, ap₂, subst, ◌∙◌}
 use mathlib.Core.Bool.{Bool, true, false, ◌&&◌, cond}
-use mathlib.Core.List.{List, [], ◌∷◌, ◌++◌, map, append-nil}
+use mathlib.Core.List.{List, [], ◌∷◌, ◌++◌, append-nil}
 use lib.Dec.{ltb}
-use lib.ListN.{length, get_or, take, drop, set, replicate, length-append, length-set, length-map, get_or-map}
-use lib.Seq.{get_or-set_same, get_or-set_other, ext_get_or}
+use lib.ListN.{length, get_or, take, drop, set, replicate, length-append, length-set}
+use lib.Seq.{get_or-set_same, get_or-set_other}
 use borrow.Author.Tests.{ltb-true, ltb-false}
 use denote.Param.Members.{Mut}
-use Rattle.std.specs.Array.{IsFromFnResultFrom, MapsFrom, IsMapOf}
+use Rattle.std.specs.Array.{IsFromFnResultFrom}
 use Rattle.std.specs.Fn.{Called}
 use Rattle.std.specs.List as Std
 use Rattle.std.proofs.lemmas.List.Sums as Sums
@@ -42,24 +42,6 @@ module _ {F B : Type 0} {g : Mut F (ℕ × Unit {0}) B} (f : F) (h : ℕ → B)
         | yes e ↦ ap (λ (m : ℕ). get_or xs m d) e ∙ made.2.1 d ∙ gave.1 ∙ ap h (sym e)
         | no e ↦ made_at n (i + 1) rest k (omega (arith, e)) (omega arith) d
       ]
-
--- an array made of another by h
-module _ {F A B : Type 0} {g : Mut F (A × Unit {0}) B} (f : F) (h : A → B)
-    (gives : (x : A) (y : B) (q : F) → Called g f (x, tt) y q → (q ≡ f) × (y ≡ h x)) (xs : List A) (ys : List B) (d : A) where
-  mapped_at : (n i : ℕ) → MapsFrom g f xs ys i n → (k : ℕ) → i ≤ k → k < i + n → get_or ys k (h d) ≡ h (get_or xs k d)
-  mapped_at zero i made k low high = absurd (omega arith)
-  mapped_at (suc n) i made k low high =
-      let gave = gives made.1 made.2 made.0 made.5 in
-      let rest = subst (λ (q : F). MapsFrom g q xs ys (i + 1) n) gave.0 made.6 in
-      elim (ℕ_discrete k i) [
-        | yes e ↦ ap (λ (m : ℕ). get_or ys m (h d)) e ∙ made.4.1 (h d) ∙ gave.1 ∙ ap h (sym (made.3.1 d)) ∙ ap (λ (m : ℕ). h (get_or xs m d)) (sym e)
-        | no e ↦ mapped_at n (i + 1) rest k (omega (arith, e)) (omega arith)
-      ]
-
-  pub mapped : (n : ℕ) → length xs ≡ n → IsMapOf g f xs ys n → ys ≡ map h xs
-  mapped n e made =
-      ext_get_or (h d) ys (map h xs) (made.long ∙ sym (length-map xs h ∙ e))
-      (λ k l. mapped_at n 0 made.each k (omega arith) (omega (arith, made.long)) ∙ sym (get_or-map h xs k d))
 
 -- one note more of whichever file supplies it
 module _ {morning noon notes : List ℕ} {late : List Bool} (start c x : ℕ) (aligned : start % most_contracts ≡ 0) (h : c < most_contracts)

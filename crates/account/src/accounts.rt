@@ -165,7 +165,8 @@ fn lists(counts: &[u16], c: usize) -> bool
     noted(counts, OWN + c) != 0
 }
 
-// What is noted of each part in whichever file supplies it. The notes are an array of this function's own, so that several are chosen at once.
+// What is noted of each part in whichever file supplies it. The notes are an array of this function's own, and both are
+// read before one is chosen, so that several are chosen at once.
 fn either_notes(
     morning: &[u16; PARTS],
     noon: &[u16; PARTS],
@@ -178,7 +179,8 @@ fn either_notes(
     for kind in 0..ENTRIES / CONTRACTS {
         for c in 0..CONTRACTS {
             let v = CONTRACTS * kind + c;
-            notes[v] = if late[c] { noon[v] } else { notes[v] };
+            let (earlier, later) = (notes[v], noon[v]);
+            notes[v] = if late[c] { later } else { earlier };
         }
     }
     notes

@@ -9,6 +9,7 @@ ghost use Rattle.account.specs.code.Standing.{Stands, PartOf, WhereOf};
 use crate::accounts::{Account, Whereabouts, supplied};
 use crate::notes::noted;
 use crate::parts::{CONTRACTS, ENTRIES, OWN, PARTS, PROMPTS, RATES, ROWS, SPREADS};
+use std::array;
 
 // Where what is noted begins: of each part where it begins in its file, and how many records it has; the contracts' numbers in order; for
 // each contract 1 where the noon file supplies it; how many records the account has, and how many contracts.
@@ -31,8 +32,10 @@ pub fn lend(account: Account, notes: &mut [u16; NOTES])
 {
     notes[..COUNTS].copy_from_slice(&account.first);
     notes[COUNTS..NUMBERS].copy_from_slice(&account.counts);
-    notes[NUMBERS..LATE].copy_from_slice(&account.numbers.map(u16::from));
-    notes[LATE..RECORDS].copy_from_slice(&account.noon.map(u16::from));
+    let numbers: [u16; CONTRACTS] = array::from_fn(|c| u16::from(account.numbers[c]));
+    let late: [u16; CONTRACTS] = array::from_fn(|c| u16::from(account.noon[c]));
+    notes[NUMBERS..LATE].copy_from_slice(&numbers);
+    notes[LATE..RECORDS].copy_from_slice(&late);
     notes[RECORDS] = account.records as u16;
     notes[LISTED] = account.contracts as u16;
 }

@@ -4,14 +4,19 @@ use Prim.Native.Nat.{ℕ, zero, suc, ◌+◌, ◌-◌, ◌%◌, ◌≤◌, ◌<�
 use native.Mathlib.Nat.{le_of_suc-le-suc, not-suc-le-zero}
 use native.Mathlib.Decide.{ℕ_discrete}
 use native.Mathlib.Omega.{arith}
-use mathlib.Core.Path.{◌≡◌, refl, sym, ap, ap₂, ◌∙◌}
+use mathlib.Core.Path.{◌≡◌, refl, sym, ap, ap₂, subst, ◌∙◌}
 use mathlib.Core.Bool.{Bool, true, false, ◌&&◌, cond}
 use mathlib.Core.List.{List, [], ◌∷◌, ◌++◌, append-nil}
 use lib.Dec.{ltb}
 use lib.ListN.{length, get_or, take, drop, set, replicate, length-append, length-set}
 use lib.Seq.{get_or-set_same, get_or-set_other}
 use borrow.Author.Tests.{ltb-true, ltb-false}
-use Rattle.exact.specs.Lists.{cons_if, keep, one_if, sum}
+use denote.Param.Members.{Mut}
+use Rattle.std.specs.Array.{IsFromFnResultFrom}
+use Rattle.std.specs.Fn.{Called}
+use Rattle.std.specs.List as Std
+use Rattle.std.proofs.lemmas.List.Sums as Sums
+use Rattle.exact.specs.Lists.{cons_if, keep, sum}
 use Rattle.record.specs.Bytes.{count_from}
 use Rattle.account.specs.Check.{most_contracts}
 use Rattle.account.specs.PartNumbers.{parts, entry_part}
@@ -24,6 +29,19 @@ module _ {A : Type 0} (d : A) (f : ℕ → A) (xs : List A) (v : ℕ) (x : A) (h
       go : Dec (i ≡ v) → get_or (set xs v x) i d ≡ f i
       go (yes q) = ap (λ (k : ℕ). get_or (set xs v x) k d) q ∙ get_or-set_same xs v x d h ∙ e ∙ ap f (sym q)
       go (no q) = get_or-set_other xs v i x d q ∙ old i (omega (arith, q))
+
+-- an array made of a function that gives h of each index
+module _ {F B : Type 0} {g : Mut F (ℕ × Unit {0}) B} (f : F) (h : ℕ → B)
+    (gives : (k : ℕ) (x : B) (q : F) → Called g f (k, tt) x q → (q ≡ f) × (x ≡ h k)) (xs : List B) where
+  pub made_at : (n i : ℕ) → IsFromFnResultFrom g f xs i n → (k : ℕ) → i ≤ k → k < i + n → (d : B) → get_or xs k d ≡ h k
+  made_at zero i made k low high d = absurd (omega arith)
+  made_at (suc n) i made k low high d =
+      let gave = gives i made.1 made.0 made.3 in
+      let rest = subst (λ (q : F). IsFromFnResultFrom g q xs (i + 1) n) gave.0 made.4 in
+      elim (ℕ_discrete k i) [
+        | yes e ↦ ap (λ (m : ℕ). get_or xs m d) e ∙ made.2.1 d ∙ gave.1 ∙ ap h (sym e)
+        | no e ↦ made_at n (i + 1) rest k (omega (arith, e)) (omega arith) d
+      ]
 
 -- one note more of whichever file supplies it
 module _ {morning noon notes : List ℕ} {late : List Bool} (start c x : ℕ) (aligned : start % most_contracts ≡ 0) (h : c < most_contracts)
@@ -57,7 +75,7 @@ either_all {morning} {noon} {counts} {notes} {late} flagged e = record { long = 
         ∙ ap (λ (b : Bool). cond b (get_or noon v 0) (get_or morning v 0)) (flagged.each (v % most_contracts) (omega arith))
     go v false l = e.rest v (ltb-false v entry_part l)
 
-take_next : (xs : List ℕ) (n x : ℕ) → n < length xs → take (suc n) (set xs n x) ≡ take n xs ++ x ∷ []
+pub take_next : (xs : List ℕ) (n x : ℕ) → n < length xs → take (suc n) (set xs n x) ≡ take n xs ++ x ∷ []
 take_next [] n x h = absurd (not-suc-le-zero h)
 take_next (y ∷ xs) zero x h = refl
 take_next (y ∷ xs) (suc n) x h = ap (λ (ys : List ℕ). y ∷ ys) (take_next xs n x (le_of_suc-le-suc h))
@@ -94,23 +112,21 @@ no_length : (xs : List ℕ) → length xs ≡ 0 → xs ≡ []
 no_length [] e = refl
 no_length (x ∷ xs) e = absurd (omega (arith, e))
 
--- as many are found as there are, or all are looked at
-module _ (p : ℕ → Bool) (most n c m : ℕ) (many : n ≡ length (keep p (count_from 0 c))) (h : c ≤ m) (few : length (keep p (count_from 0 m)) ≤ most) where
-  pub all_found : ltb n most && ltb c m ≡ false → keep p (count_from 0 c) ≡ keep p (count_from 0 m)
-  all_found stop =
-      sym (whole ∙ ap (λ (ys : List ℕ). keep p (count_from 0 c) ++ ys) (no_length later (go (ltb n most) refl)) ∙ append-nil (keep p (count_from 0 c)))
-    where
-      later : List ℕ
-      later = keep p (count_from (0 + c) (m - c))
+-- as many are found as there may be: there are no more
+pub all_found :
+    (p : ℕ → Bool) (n c m : ℕ) → n ≡ length (keep p (count_from 0 c)) → c ≤ m → length (keep p (count_from 0 m)) ≤ n
+    → keep p (count_from 0 c) ≡ keep p (count_from 0 m)
+all_found p n c m many h few =
+    sym (whole ∙ ap (λ (ys : List ℕ). keep p (count_from 0 c) ++ ys) (no_length later none) ∙ append-nil (keep p (count_from 0 c)))
+  where
+    later : List ℕ
+    later = keep p (count_from (0 + c) (m - c))
 
-      whole : keep p (count_from 0 m) ≡ keep p (count_from 0 c) ++ later
-      whole = let e : m ≡ c + (m - c) = omega arith in ap (λ (k : ℕ). keep p (count_from 0 k)) e ∙ keep-parts p 0 c (m - c)
+    whole : keep p (count_from 0 m) ≡ keep p (count_from 0 c) ++ later
+    whole = let e : m ≡ c + (m - c) = omega arith in ap (λ (k : ℕ). keep p (count_from 0 k)) e ∙ keep-parts p 0 c (m - c)
 
-      go : (t : Bool) → ltb n most ≡ t → length later ≡ 0
-      go true e =
-          let l = ltb-false c m (ap (λ (b : Bool). b && ltb c m) (sym e) ∙ stop) in
-          omega (arith, kept_few p (0 + c) (m - c))
-      go false e = omega (arith, ltb-false n most e, ap length whole, length-append (keep p (count_from 0 c)) later, many, few)
+    none : length later ≡ 0
+    none = omega (arith, ap length whole, length-append (keep p (count_from 0 c)) later, many, few)
 
 drop-set : (xs : List ℕ) (n x : ℕ) → drop (suc n) (set xs n x) ≡ drop (suc n) xs
 drop-set [] zero x = refl
@@ -125,36 +141,34 @@ left_next [] (suc n) k e = absurd (omega (arith, ap length e))
 left_next (y ∷ xs) zero k e = ap (drop 1) e
 left_next (y ∷ xs) (suc n) k e = left_next xs n k e
 
--- one number more that is listed, or not
-module _ (p : ℕ → Bool) (c n : ℕ) (xs ys : List ℕ) (t : Bool) (e : t ≡ p c) (h : n < length xs) (put : ys ≡ cond t (set xs n c) xs) where
-  pub numbers_next : take n xs ≡ keep p (count_from 0 c) → take (n + one_if t) ys ≡ keep p (count_from 0 (c + 1))
-  numbers_next old =
+-- one number more that is looked at: it is listed and put after the others, or it is not
+module _ (p : ℕ → Bool) (c : ℕ) where
+  keep_more : keep p (count_from 0 (c + 1)) ≡ keep p (count_from 0 c) ++ cons_if (p c) c []
+  keep_more =
       let more : c + 1 ≡ suc c = omega arith in
       let same : 0 + c ≡ c = omega arith in
-      go t (sym e) put
-      ∙ sym (ap (λ (m : ℕ). keep p (count_from 0 m)) more ∙ keep_next p 0 c ∙ ap (λ (k : ℕ). keep p (count_from 0 c) ++ cons_if (p k) k []) same)
-    where
-      go : (t : Bool) → p c ≡ t → ys ≡ cond t (set xs n c) xs → take (n + one_if t) ys ≡ keep p (count_from 0 c) ++ cons_if (p c) c []
-      go true i q =
-          let m : n + 1 ≡ suc n = omega arith in
-          ap₂ take m q ∙ take_next xs n c h ∙ ap₂ ◌++◌ old (sym (ap (λ (b : Bool). cons_if b c []) i))
-      go false i q =
-          let m : n + 0 ≡ n = omega arith in
-          ap₂ take m q ∙ old ∙ sym (append-nil (keep p (count_from 0 c))) ∙ ap (λ (b : Bool). keep p (count_from 0 c) ++ cons_if b c []) (sym i)
+      ap (λ (m : ℕ). keep p (count_from 0 m)) more ∙ keep_next p 0 c ∙ ap (λ (k : ℕ). keep p (count_from 0 c) ++ cons_if (p k) k []) same
 
-  pub left_after : (m : ℕ) → length xs ≡ m → drop n xs ≡ replicate (m - n) 0 → drop (n + one_if t) ys ≡ replicate (m - (n + one_if t)) 0
-  left_after m l old = go t put
-    where
-      go : (t : Bool) → ys ≡ cond t (set xs n c) xs → drop (n + one_if t) ys ≡ replicate (m - (n + one_if t)) 0
-      go true q =
-          let a : n + 1 ≡ suc n = omega arith in
-          let b : m - n ≡ suc (m - (n + 1)) = omega (arith, l, h) in
-          ap₂ drop a q ∙ drop-set xs n c ∙ left_next xs n (m - (n + 1)) (old ∙ ap (λ (k : ℕ). replicate k 0) b)
-      go false q =
-          let a : n + 0 ≡ n = omega arith in
-          ap₂ drop a q ∙ old ∙ ap (λ (k : ℕ). replicate (m - k) 0) (sym a)
+  pub numbers_next :
+      (n : ℕ) (xs : List ℕ) → n < length xs → p c ≡ true → take n xs ≡ keep p (count_from 0 c)
+      → take (n + 1) (set xs n c) ≡ keep p (count_from 0 (c + 1))
+  numbers_next n xs h e old =
+      let m : n + 1 ≡ suc n = omega arith in
+      ap (λ (k : ℕ). take k (set xs n c)) m ∙ take_next xs n c h ∙ ap₂ ◌++◌ old (sym (ap (λ (b : Bool). cons_if b c []) e)) ∙ sym keep_more
 
-pub sum_next : (xs : List ℕ) (v : ℕ) → v < length xs → sum (take (suc v) xs) ≡ sum (take v xs) + get_or xs v 0
-sum_next [] v h = absurd (not-suc-le-zero h)
-sum_next (x ∷ xs) zero h = omega arith
-sum_next (x ∷ xs) (suc v) h = let r = sum_next xs v (le_of_suc-le-suc h) in omega arith
+  pub numbers_same : p c ≡ false → keep p (count_from 0 c) ≡ keep p (count_from 0 (c + 1))
+  numbers_same e =
+      sym (keep_more ∙ ap (λ (b : Bool). keep p (count_from 0 c) ++ cons_if b c []) e ∙ append-nil (keep p (count_from 0 c)))
+
+-- one place less is left
+pub left_after :
+    (xs : List ℕ) (n c m : ℕ) → n < m → drop n xs ≡ replicate (m - n) 0 → drop (n + 1) (set xs n c) ≡ replicate (m - (n + 1)) 0
+left_after xs n c m h old =
+    let a : n + 1 ≡ suc n = omega arith in
+    let b : m - n ≡ suc (m - (n + 1)) = omega arith in
+    ap (λ (k : ℕ). drop k (set xs n c)) a ∙ drop-set xs n c ∙ left_next xs n (m - (n + 1)) (old ∙ ap (λ (k : ℕ). replicate k 0) b)
+
+-- the sum of the library is the one of `exact`
+pub sum_is : (xs : List ℕ) → Std.sum xs ≡ sum xs
+sum_is [] = refl
+sum_is (x ∷ xs) = Sums.sum_by-cons (λ n. n) x xs ∙ ap (λ (n : ℕ). x + n) (sum_is xs)

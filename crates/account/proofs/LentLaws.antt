@@ -5,23 +5,24 @@ use native.Mathlib.Omega.{arith}
 use mathlib.Core.Path.{◌≡◌, refl, sym, ap, ◌∙◌}
 use mathlib.Core.Bool.{Bool, true, false}
 use mathlib.Core.List.{List, [], ◌∷◌, ◌++◌, map, append_assoc}
-use lib.ListN.{length, get_or, take, drop, length-take, length-map}
-use lib.ListN.{get_or-eq_default, get_or-map}
+use lib.ListN.{length, get_or, set, take, drop, length-set, length-map}
+use lib.ListN.{get_or-map}
 use lib.Seq.{get_or-take, get_or-drop, take_at, drop_at, drop-drop, take_all}
+use borrow.Rule.Slice.PartMut.{put_mid}
+use Rattle.std.proofs.lemmas.List.Edits.{length-paste}
+use Rattle.std.proofs.lemmas.Slice.{take-put_mid, put_mid-paste}
 use Rattle.exact.specs.Lists.{one_if}
 use Rattle.account.specs.Check.{most_contracts}
 use Rattle.account.specs.PartNumbers.{parts}
 use Rattle.account.specs.code.Lent.{counts_note, numbers_note, late_note, records_note, listed_note, note_count, flagged, account_in, Lendable}
 use Rattle.account.specs.code.Standing.{Stands}
 use Rattle.account.specs.declared.accounts.Account.{Account}
+use Rattle.account.proofs.Filled.{take_next}
 
 -- a stretch of the notes, read by its places
 module _ (notes : List ℕ) (at n i : ℕ) where
   pub read_in : i < n → get_or (take n (drop at notes)) i 0 ≡ get_or notes (at + i) 0
   read_in h = get_or-take n (drop at notes) i 0 h ∙ get_or-drop at notes i 0
-
-  pub read_past : n ≤ i → get_or (take n (drop at notes)) i 0 ≡ 0
-  read_past h = get_or-eq_default (take n (drop at notes)) 0 (omega (arith, length-take n (drop at notes)))
 
 -- whether the noon file supplies a contract
 pub read_late : (notes : List ℕ) (c : ℕ) → c < most_contracts → get_or (account_in notes).noon c false ≡ flagged (get_or notes (late_note + c) 0)
@@ -80,42 +81,61 @@ flags_back [] = refl
 flags_back (true ∷ bs) = ap (λ (xs : List Bool). true ∷ xs) (flags_back bs)
 flags_back (false ∷ bs) = ap (λ (xs : List Bool). false ∷ xs) (flags_back bs)
 
--- what is put after what stands
-put_next : (at n : ℕ) (before after xs ys : List ℕ) → length ys ≡ n → take at before ≡ xs → take (at + length ys) after ≡ take at before ++ ys
-    → take (at + n) after ≡ xs ++ ys
-put_next at n before after xs ys e b a = ap (λ (k : ℕ). take (at + k) after) (sym e) ∙ a ∙ ap (λ (zs : List ℕ). zs ++ ys) b
+-- a stretch is put in after what stands
+pub mid_length : (at n : ℕ) (xs ys : List ℕ) → length ys ≡ n → at + n ≤ length xs → length (put_mid at n xs ys) ≡ length xs
+mid_length at n xs ys e h =
+    let k : n ≤ length ys = omega (arith, e) in
+    ap length (put_mid-paste at n xs ys ys n refl refl (sym e)) ∙ length-paste xs at ys n h k
 
--- an account put in the notes, piece after piece
-module _ (a : Account) (l : Lendable a) (n0 n1 n2 n3 n4 n5 numbers late : List ℕ) (records contracts : ℕ)
-    (put1 : take (0 + length a.first) n1 ≡ take 0 n0 ++ a.first)
-    (put2 : take (counts_note + length a.counts) n2 ≡ take counts_note n1 ++ a.counts)
-    (put3 : take (numbers_note + length numbers) n3 ≡ take numbers_note n2 ++ numbers)
-    (put4 : take (late_note + length late) n4 ≡ take late_note n3 ++ late)
-    (put5 : take (records_note + 2) n5 ≡ take records_note n4 ++ (records ∷ contracts ∷ [])) where
-  pub lent_is : length n5 ≡ note_count → numbers ≡ a.numbers → late ≡ map one_if a.noon → records ≡ a.records → contracts ≡ a.contracts
-      → account_in n5 ≡ a
-  lent_is long en el er ec =
-      let f = a.first in
-      let c = a.counts in
+-- an account put in the notes, stretch after stretch
+module _ (a : Account) (l : Lendable a) (f c numbers late rest : List ℕ)
+    (ef : f ≡ a.first) (ec : c ≡ a.counts) (en : numbers ≡ a.numbers) (el : late ≡ map one_if a.noon) (er : length (f ++ rest) ≡ note_count) where
+  abbrev with_counts : List ℕ
+  with_counts = put_mid counts_note parts (f ++ rest) c
+
+  abbrev with_numbers : List ℕ
+  with_numbers = put_mid numbers_note most_contracts with_counts numbers
+
+  abbrev with_late : List ℕ
+  with_late = put_mid late_note most_contracts with_numbers late
+
+  pub lent_is : account_in (set (set with_late records_note a.records) listed_note a.contracts) ≡ a
+  lent_is =
+      let lf : length f ≡ parts = ap length ef ∙ l.first in
+      let lc : length c ≡ parts = ap length ec ∙ l.counts in
       let ln : length numbers ≡ most_contracts = ap length en ∙ l.numbers in
       let ll : length late ≡ most_contracts = ap length el ∙ length-map a.noon one_if ∙ l.noon in
-      let ends : List ℕ = records ∷ contracts ∷ [] in
-      let t1 : take parts n1 ≡ f = put_next 0 parts n0 n1 [] f l.first refl put1 in
-      let t2 : take numbers_note n2 ≡ f ++ c = put_next counts_note parts n1 n2 f c l.counts t1 put2 in
-      let t3 : take late_note n3 ≡ (f ++ c) ++ numbers = put_next numbers_note most_contracts n2 n3 (f ++ c) numbers ln t2 put3 in
-      let t4 : take records_note n4 ≡ ((f ++ c) ++ numbers) ++ late = put_next late_note most_contracts n3 n4 ((f ++ c) ++ numbers) late ll t3 put4 in
-      let t5 : take note_count n5 ≡ (((f ++ c) ++ numbers) ++ late) ++ ends =
-      put_next records_note 2 n4 n5 (((f ++ c) ++ numbers) ++ late) ends refl t4 put5 in
-      let whole_is : n5 ≡ f ++ (c ++ (numbers ++ (late ++ ends))) =
-      sym (take_all note_count n5 (omega (arith, long)))
-      ∙ t5
+      let long2 : length with_counts ≡ note_count = mid_length counts_note parts (f ++ rest) c lc (omega (arith, er)) ∙ er in
+      let long3 : length with_numbers ≡ note_count = mid_length numbers_note most_contracts with_counts numbers ln (omega (arith, long2)) ∙ long2 in
+      let long4 : length with_late ≡ note_count = mid_length late_note most_contracts with_numbers late ll (omega (arith, long3)) ∙ long3 in
+      let ends : List ℕ = a.records ∷ a.contracts ∷ [] in
+      let n5 = set with_late records_note a.records in
+      let n6 = set n5 listed_note a.contracts in
+      let long5 : length n5 ≡ note_count = length-set with_late records_note a.records ∙ long4 in
+      let long6 : length n6 ≡ note_count = length-set n5 listed_note a.contracts ∙ long5 in
+      let t2 : take numbers_note with_counts ≡ f ++ c =
+      take-put_mid counts_note parts (f ++ rest) c numbers_note (omega (arith, lc)) (omega (arith, er)) ∙ ap (λ (xs : List ℕ). xs ++ c) (take_at f rest parts lf) in
+      let t3 : take late_note with_numbers ≡ (f ++ c) ++ numbers =
+      take-put_mid numbers_note most_contracts with_counts numbers late_note (omega (arith, ln)) (omega (arith, long2))
+      ∙ ap (λ (xs : List ℕ). xs ++ numbers) t2 in
+      let t4 : take records_note with_late ≡ ((f ++ c) ++ numbers) ++ late =
+      take-put_mid late_note most_contracts with_numbers late records_note (omega (arith, ll)) (omega (arith, long3))
+      ∙ ap (λ (xs : List ℕ). xs ++ late) t3 in
+      let t5 : take listed_note n5 ≡ (((f ++ c) ++ numbers) ++ late) ++ (a.records ∷ []) =
+      take_next with_late records_note a.records (omega (arith, long4)) ∙ ap (λ (xs : List ℕ). xs ++ (a.records ∷ [])) t4 in
+      let t6 : take note_count n6 ≡ ((((f ++ c) ++ numbers) ++ late) ++ (a.records ∷ [])) ++ (a.contracts ∷ []) =
+      take_next n5 listed_note a.contracts (omega (arith, long5)) ∙ ap (λ (xs : List ℕ). xs ++ (a.contracts ∷ [])) t5 in
+      let whole_is : n6 ≡ f ++ (c ++ (numbers ++ (late ++ ends))) =
+      sym (take_all note_count n6 (omega (arith, long6)))
+      ∙ t6
+      ∙ append_assoc (((f ++ c) ++ numbers) ++ late) (a.records ∷ []) (a.contracts ∷ [])
       ∙ append_assoc ((f ++ c) ++ numbers) late ends
       ∙ append_assoc (f ++ c) numbers (late ++ ends)
       ∙ append_assoc f c (numbers ++ (late ++ ends)) in
       ap account_in whole_is
-      ∙ account_of-parts f c numbers late records contracts l.first l.counts ln ll
-      ∙ (λ i. record { records = er i; contracts = ec i; numbers = en i; noon = map flagged (el i); first = f; counts = c })
-      ∙ (λ i. record { records = a.records; contracts = a.contracts; numbers = a.numbers; noon = flags_back a.noon i; first = f; counts = c })
+      ∙ account_of-parts f c numbers late a.records a.contracts lf lc ln ll
+      ∙ (λ i. record { records = a.records; contracts = a.contracts; numbers = en i; noon = map flagged (el i); first = ef i; counts = ec i })
+      ∙ (λ i. record { records = a.records; contracts = a.contracts; numbers = a.numbers; noon = flags_back a.noon i; first = a.first; counts = a.counts })
 
 -- an account that stands has room in the notes
 pub lendable : (morning noon : List ℕ) (a : Account) → Stands morning noon a → Lendable a

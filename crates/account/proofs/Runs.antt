@@ -160,20 +160,6 @@ pub tiers_end :
 tiers_end {prompts} {listed} s e =
     record { long = s.long; each = λ t h. s.each t h ∙ ap (λ (n : ℕ). any (on_tier t) (cut n prompts)) e }
 
--- ---- a run
-pub run_start : (passes : ℕ → Bool) {k end : ℕ} → k ≤ end → RunTo passes k end k
-run_start passes h = record { low = omega arith; high = h; each = λ j l m. absurd (omega arith) }
-
-pub run_next : (passes : ℕ → Bool) {k end i : ℕ} → RunTo passes k end i → i < end → passes i ≡ true → RunTo passes k end (i + 1)
-run_next passes {k} {end} {i} s h e =
-    record { low = omega (arith, s.low); high = omega arith; each = λ j l m. go j l m (eqb j i) refl }
-  where
-    go : (j : ℕ) → k ≤ j → j < i + 1 → (b : Bool) → eqb j i ≡ b → passes j ≡ true
-    go j l m true b = ap passes (eqb-true j i b) ∙ e
-    go j l m false b =
-        let n = eqb-false j i b in
-        s.each j l (omega arith)
-
 -- ---- a record that passes gets no fault
 and_off : (a : Bool) {b : Bool} → b ≡ false → a && b ≡ false
 and_off true q = q

@@ -115,12 +115,12 @@ module _ (morning noon : List ℕ) (a : Account) (st : Places morning noon a) (v
 -- a contract's part, by where the account has it
 pub part_where : (morning noon : List ℕ) (a : Account) → Places morning noon a → (k c : ℕ) → k ≤ 4 → c ≤ most_contract → (late : Bool) (first n : ℕ)
     → late ≡ get_or a.noon c false → first ≡ get_or a.first (part k c) 0 → n ≡ get_or a.counts (part k c) 0
-    → (file r : List ℕ) → file ≡ cond late noon morning → r ≡ stretch file first n → PartOf (account_of morning noon) (part k c) r
-part_where morning noon a st k c hk hc late first n el ef en file r ei er =
+    → (r : List ℕ) → r ≡ stretch (cond late noon morning) first n → PartOf (account_of morning noon) (part k c) r
+part_where morning noon a st k c hk hc late first n el ef en r er =
     let v = part k c in
     let d : v % most_contracts ≡ c = omega arith in
     part_stands morning noon a st v (omega arith) late
     (el
     ∙ ap (λ (i : ℕ). get_or a.noon i false) (sym d)
     ∙ ap (λ (t : Bool). t && get_or a.noon (v % most_contracts) false) (sym (lt-ltb v entry_part (omega arith))))
-    r (er ∙ ap (λ (f : List ℕ). stretch f first n) ei ∙ ap₂ (stretch (cond late noon morning)) ef en)
+    r (er ∙ ap₂ (stretch (cond late noon morning)) ef en)

@@ -2,14 +2,14 @@
 -- Assumes nothing.
 use Prim.Native.Nat.{ℕ, zero, suc, ◌+◌, ◌-◌, ◌*◌, ◌/◌, ◌≤◌, ◌<◌}
 use mathlib.Core.Path.{◌≡◌, refl, sym, ap, ◌∙◌}
-use mathlib.Core.Bool.{Bool, true, false, not}
+use mathlib.Core.Bool.{Bool, true, false, not, ◌||◌}
 use mathlib.Core.List.{List, [], ◌∷◌}
 use lib.ListN.{length, take, drop, length-drop, drop_of_length-le}
 use lib.Seq.{take-nil, take_all, drop-drop}
 use lib.Dec.{leb, leb-suc-zero, leb-suc-suc}
-use native.Mathlib.Nat.{zero-add}
 use native.Mathlib.Omega.{arith}
 use native.Mathlib.Numerals.{add-one}
+use Rattle.std.specs.List.{list_any, range_with_len}
 use Rattle.record.specs.Bytes.{record_bytes}
 use Rattle.exact.specs.Lists.{any}
 use Rattle.record.specs.Layout.{Record}
@@ -58,29 +58,19 @@ pub length_cut : (n : ℕ) (file : List ℕ) → length (cut n file) ≡ n
 length_cut zero file = refl
 length_cut (suc n) file = ap suc (length_cut n (drop record_bytes file))
 
--- ---- the place of a record, looked for from the front
-module _ (p : Record → Bool) (file : List ℕ) (n i : ℕ) where
-  abbrev pub place_from : ℕ
-  place_from = i + place_of p (cut (n - i) (drop (i * record_bytes) file))
+-- whether any record passes, looked for by their places
+any_from :
+    (p : Record → Bool) (file : List ℕ) (n i : ℕ)
+    → list_any (λ j. p (record_at file j)) (range_with_len i n) ≡ any p (cut n (drop (i * record_bytes) file))
+any_from p file zero i = refl
+any_from p file (suc n) i =
+    let d : i * record_bytes + record_bytes ≡ (i + 1) * record_bytes = omega arith in
+    let e : drop record_bytes (drop (i * record_bytes) file) ≡ drop ((i + 1) * record_bytes) file = rw (drop-drop record_bytes (i * record_bytes) file, d) in
+    ap (λ (b : Bool). p (record_at file i) || b) (any_from p file n (i + 1) ∙ ap (λ (xs : List ℕ). any p (cut n xs)) (sym e))
 
-  pub place_here : i < n → p (record_at file i) ≡ true → place_from ≡ i
-  place_here h t = rw (cut_on file n i h, t) (omega arith)
-
-  pub place_past : n ≤ i → place_from ≡ i
-  place_past h =
-      let s : n - i ≡ 0 = omega arith in
-      rw s (omega arith)
-
-pub place_next :
-    (p : Record → Bool) (file : List ℕ) (n i : ℕ) → i < n → p (record_at file i) ≡ false
-    → place_from p file n i ≡ place_from p file n (i + 1)
-place_next p file n i h t = rw (cut_on file n i h, t) (omega arith)
-
-pub place_start :
-    (p : Record → Bool) (file : List ℕ) → place_of p (records file) ≡ place_from p file (record_count file) 0
-place_start p file =
-    let e : record_count file - 0 ≡ record_count file = omega arith in
-    rw e (sym (zero-add (place_of p (records file))))
+pub any_at_places :
+    (p : Record → Bool) (file : List ℕ) → list_any (λ j. p (record_at file j)) (range_with_len 0 (record_count file)) ≡ any p (records file)
+any_at_places p file = any_from p file (record_count file) 0
 
 pub none-place : (p : Record → Bool) (rs : List Record) → leb (length rs) (place_of p rs) ≡ not (any p rs)
 none-place p [] = refl

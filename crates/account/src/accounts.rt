@@ -1,13 +1,14 @@
 // An account as one thing: which contracts there are, and where the records of each kind of each contract stand, in one
 // file or in two. Nothing above this module knows files, surveys or offsets.
 ghost use Rattle.std.specs.Prelude.{List, [], ◌≡◌, cond, ℕ, ◌+◌, ◌%◌, ◌≤◌, ◌<◌, length, get_or, set, take};
-ghost use Rattle.exact.specs.Lists.{one_if, sum};
+ghost use Rattle.exact.specs.Lists.{sum};
 ghost use Rattle.account.specs.Check.{most_contracts};
 ghost use Rattle.account.specs.Checked.{rates_checked, checked};
 ghost use Rattle.account.specs.Lawful.{Recorded};
 ghost use Rattle.account.specs.PartNumbers.{parts, entry_part, row_part};
 ghost use Rattle.account.specs.Joined.{account_of};
 ghost use Rattle.record.specs.Layout.{most_contract};
+ghost use Rattle.account.specs.Records as Records;
 ghost use Rattle.account.specs.code.Standing as Standing;
 ghost use Rattle.account.specs.code.Standing.{Places, Stands, PartOf, ContractPart, CheckedBy};
 ghost use Rattle.account.specs.code.Standing.{EitherTo, Flagged, listed_in, Numbered, JoinedBy, AloneBy};
@@ -16,10 +17,11 @@ ghost use Rattle.account.specs.code.Surveyed.{Tallied};
 use crate::answers::Refusal;
 use crate::check::{Survey, note_file};
 use crate::conversions::rows_answer;
-use crate::notes::{note_at, noted, wide};
+use crate::notes::noted;
 use crate::parts::{CONTRACTS, ENTRIES, OWN, PARTS, RATES, ROWS};
 use crate::rates::rates_of;
 use crate::stretches::{anew, record_count, stretch};
+use std::array;
 
 // An account: how many records it has, its contracts' numbers in order, which of them the noon file supplies, and of each
 // part where it begins in its file and how many records it has. Only the check and a join of two checked files make one:
@@ -52,8 +54,7 @@ pub fn contract_total(account: Account) -> usize
 pub fn part_total(account: Account, v: usize) -> usize
     ensures { result ≡ get_or account.counts v 0 }
 {
-    let counts = account.counts;
-    noted(&counts, v)
+    noted(&account.counts, v)
 }
 
 // The records of part `v` of an account, as they stand in whichever file supplies them.
@@ -78,8 +79,7 @@ pub(crate) fn placed_part<'a>(
         return &morning[..0];
     }
     let late = (v < ENTRIES) & account.noon[v % CONTRACTS];
-    let file = supplier(morning, noon, late);
-    stretch(file, account.first[v] as usize, account.counts[v] as usize)
+    supplied(morning, noon, late, account.first[v], account.counts[v])
 }
 
 // Where the parts of a contract stand: whether the noon file supplies it, and of each part where it begins and how many
@@ -101,61 +101,59 @@ pub struct Whereabouts {
 pub fn own_part<'a>(morning: &'a [u8], noon: &'a [u8], w: Whereabouts) -> &'a [u8]
     ensures { ContractPart morning.now noon.now 1 w result.now }
 {
-    stretch(
-        supplier(morning, noon, w.late),
-        w.own as usize,
-        w.own_count as usize,
-    )
+    supplied(morning, noon, w.late, w.own, w.own_count)
 }
 
 // Its prompts.
 pub fn prompts_part<'a>(morning: &'a [u8], noon: &'a [u8], w: Whereabouts) -> &'a [u8]
     ensures { ContractPart morning.now noon.now 2 w result.now }
 {
-    stretch(
-        supplier(morning, noon, w.late),
-        w.prompts as usize,
-        w.prompt_count as usize,
-    )
+    supplied(morning, noon, w.late, w.prompts, w.prompt_count)
 }
 
 // Its rows.
 pub fn rows_part<'a>(morning: &'a [u8], noon: &'a [u8], w: Whereabouts) -> &'a [u8]
     ensures { ContractPart morning.now noon.now 3 w result.now }
 {
-    stretch(
-        supplier(morning, noon, w.late),
-        w.rows as usize,
-        w.row_count as usize,
-    )
+    supplied(morning, noon, w.late, w.rows, w.row_count)
 }
 
 // Its interprompt spreads.
 pub fn spreads_part<'a>(morning: &'a [u8], noon: &'a [u8], w: Whereabouts) -> &'a [u8]
     ensures { ContractPart morning.now noon.now 4 w result.now }
 {
-    stretch(
-        supplier(morning, noon, w.late),
-        w.spreads as usize,
-        w.spread_count as usize,
-    )
+    supplied(morning, noon, w.late, w.spreads, w.spread_count)
 }
 
 // No records: the noon file of an account that stands in one file.
 pub fn nothing_of(file: &[u8]) -> &[u8]
     ensures { result.now ≡ [] }
 {
-    &file[0..0]
+    &file[..0]
 }
 
 // Whichever file supplies a contract.
 pub(crate) fn supplier<'a>(morning: &'a [u8], noon: &'a [u8], later: bool) -> &'a [u8]
     ensures { result.now ≡ cond later noon.now morning.now }
 {
-    if later {
-        return noon;
-    }
-    morning
+    if later { noon } else { morning }
+}
+
+// The records from record `first` on of whichever file supplies a contract.
+pub(crate) fn supplied<'a>(
+    morning: &'a [u8],
+    noon: &'a [u8],
+    later: bool,
+    first: u16,
+    count: u16,
+) -> &'a [u8]
+    ensures { result.now ≡ Records.stretch (cond later noon.now morning.now) first count }
+{
+    stretch(
+        supplier(morning, noon, later),
+        usize::from(first),
+        usize::from(count),
+    )
 }
 
 // Whether a file lists contract `c`, by its counts.
@@ -166,32 +164,8 @@ fn lists(counts: &[u16], c: usize) -> bool
     noted(counts, OWN + c) != 0
 }
 
-// What is noted of a part in whichever file supplies it.
-fn either(late: bool, morning: u16, noon: u16) -> u16
-    ensures { result ≡ cond late noon morning }
-{
-    if late { noon } else { morning }
-}
-
-// The same of the parts of one kind, in the place of the morning's notes.
-fn either_kind(
-    notes: &mut [u16; PARTS],
-    noon: &[u16; PARTS],
-    late: &[bool; CONTRACTS],
-    start: usize,
-)
-    requires { (start % most_contracts ≡ 0) × (start < entry_part) }
-    ensures { (morning : List ℕ) → EitherTo morning noon.now late.now start notes.old
-        → EitherTo morning noon.now late.now (start + most_contracts) notes.new }
-{
-    let mut c = 0;
-    while c < CONTRACTS {
-        notes[start + c] = either(late[c], notes[start + c], noon[start + c]);
-        c += 1;
-    }
-}
-
-// The same of every kind that the noon file may supply. The notes are an array of this function's own, so that several are chosen at once.
+// What is noted of each part in whichever file supplies it. The notes are an array of this function's own, and both are
+// read before one is chosen, so that several are chosen at once.
 fn either_notes(
     morning: &[u16; PARTS],
     noon: &[u16; PARTS],
@@ -201,10 +175,12 @@ fn either_notes(
     ensures { EitherTo morning.now noon.now late.now entry_part result }
 {
     let mut notes = *morning;
-    let mut start = 0;
-    while start < ENTRIES {
-        either_kind(&mut notes, noon, late, start);
-        start += CONTRACTS;
+    for kind in 0..ENTRIES / CONTRACTS {
+        for c in 0..CONTRACTS {
+            let v = CONTRACTS * kind + c;
+            let (earlier, later) = (notes[v], noon[v]);
+            notes[v] = if late[c] { later } else { earlier };
+        }
     }
     notes
 }
@@ -213,35 +189,13 @@ fn either_notes(
 fn flags(counts: &[u16]) -> [bool; CONTRACTS]
     ensures { Flagged counts.now result }
 {
-    let mut listed = [false; CONTRACTS];
-    let mut c = 0;
-    while c < CONTRACTS {
-        listed[c] = lists(counts, c);
-        c += 1;
-    }
-    listed
+    array::from_fn(|c| lists(counts, c))
 }
 
 #[derive(Clone, Copy)]
 struct ContractNumbers {
     count: usize,
     number: [u8; CONTRACTS],
-}
-
-// The number of a contract put after the others, where it is listed.
-fn put_number(number: &mut [u8], count: usize, c: usize, listed: bool)
-    requires { (count < length number.old) × (c < most_contracts) }
-    ensures { number.new ≡ cond listed (set number.old count c) number.old }
-{
-    if listed {
-        number[count] = c as u8;
-    }
-}
-
-fn one_if(b: bool) -> usize
-    ensures { result ≡ one_if b }
-{
-    if b { 1 } else { 0 }
 }
 
 // Their numbers in order, the first `count`, where there are at most `most`.
@@ -251,12 +205,14 @@ fn numbers_of(counts: &[u16], most: usize) -> ContractNumbers
 {
     let mut count = 0;
     let mut number = [0u8; CONTRACTS];
-    let mut c = 0;
-    while (count < most) & (c < CONTRACTS) {
-        let listed = lists(counts, c);
-        put_number(&mut number, count, c, listed);
-        count += one_if(listed);
-        c += 1;
+    for c in 0..CONTRACTS {
+        if count == most {
+            break;
+        }
+        if lists(counts, c) {
+            number[count] = c as u8;
+            count += 1;
+        }
     }
     ContractNumbers { count, number }
 }
@@ -266,35 +222,22 @@ fn records_in(counts: &[u16]) -> usize
     requires { length counts.now ≤ parts }
     ensures { result ≡ sum counts.now }
 {
-    let mut n = 0;
-    let mut v = 0;
-    while v < counts.len() {
-        n += wide(note_at(counts, v));
-        v += 1;
-    }
-    n
+    counts.iter().map(|n| usize::from(*n)).sum()
 }
 
 // The joined account of two files, by what the check handed out of them.
 pub(crate) fn join(morning: Survey, noon: Survey) -> Account
     ensures { JoinedBy morning noon result }
 {
-    let morning_first = morning.first;
-    let morning_counts = morning.counts;
-    let noon_first = noon.first;
-    let noon_counts = noon.counts;
-    let supplied = flags(&noon_counts);
-    let first = either_notes(&morning_first, &noon_first, &supplied);
-    let counts = either_notes(&morning_counts, &noon_counts, &supplied);
-    let records = records_in(&counts);
-    let listed = numbers_of(&counts, CONTRACTS);
-    let contracts = listed.count;
-    let numbers = listed.number;
+    let late = flags(&noon.counts);
+    let first = either_notes(&morning.first, &noon.first, &late);
+    let counts = either_notes(&morning.counts, &noon.counts, &late);
+    let ContractNumbers { count, number } = numbers_of(&counts, CONTRACTS);
     Account {
-        records,
-        contracts,
-        numbers,
-        noon: supplied,
+        records: records_in(&counts),
+        contracts: count,
+        numbers: number,
+        noon: late,
         first,
         counts,
     }
@@ -311,12 +254,11 @@ fn in_one_file(
     requires { length (listed_in counts.now) ≤ contracts }
     ensures { AloneBy first.now counts.now records result }
 {
-    let listed = numbers_of(counts, contracts);
-    let numbers = listed.number;
+    let ContractNumbers { count, number } = numbers_of(counts, contracts);
     Account {
         records,
-        contracts: listed.count,
-        numbers,
+        contracts: count,
+        numbers: number,
         noon: [false; CONTRACTS],
         first: *first,
         counts: *counts,
@@ -328,8 +270,7 @@ fn before_rows(account: Account) -> usize
     requires { length account.counts ≡ parts }
     ensures { result ≡ sum (take row_part account.counts) }
 {
-    let counts = account.counts;
-    records_in(&counts[..ROWS])
+    records_in(&account.counts[..ROWS])
 }
 
 // 14 and 15, "for rows in file order", of an account whose records are accepted.

@@ -61,14 +61,14 @@ pub fn note_one(counts: &mut [u16], v: usize)
     requires { (v < length counts.old) × (get_or counts.old v 0 < most_records) }
     ensures { counts.new ≡ one_more counts.old v }
 {
-    counts[v] = counts[v] + 1;
+    counts[v] += 1;
 }
 
 fn note_more(counts: &mut [u16], v: usize, n: usize)
     requires { (v < length counts.old) × ((get_or counts.old v 0 ≤ most_records) × (n ≤ most_records)) }
     ensures { counts.new ≡ set counts.old v (get_or counts.old v 0 + n) }
 {
-    counts[v] = counts[v] + n as u16;
+    counts[v] += n as u16;
 }
 
 // Record `k` noted with the records after it up to record `next`, all of its part.
@@ -86,7 +86,7 @@ fn note_to(file: &[u8], first: &mut [u16], counts: &mut [u16], k: usize, next: u
 fn one_if_contract(r: &[u8]) -> usize
     ensures { result ≡ one_if (of_kind 1 r.now) }
 {
-    if kind(r) == 1 { 1 } else { 0 }
+    usize::from(kind(r) == 1)
 }
 
 // A step of the check: the record to go on at and how many contracts were passed.

@@ -1,17 +1,15 @@
 // An account as it is lent: what it notes in one array, which is read where it stands. Handed on by value an account is copied at each call,
 // and each copy waits for the one before.
-ghost use Rattle.std.specs.Prelude.{◌≡◌, ◌++◌, map, ◌+◌, ◌≤◌, length, get_or, take};
-ghost use Rattle.exact.specs.Lists.{one_if};
+ghost use Rattle.std.specs.Prelude.{◌≡◌, ◌≤◌, length, get_or};
 ghost use Rattle.record.specs.Layout.{most_contract};
-ghost use Rattle.account.specs.Check.{most_contracts};
 ghost use Rattle.account.specs.Joined.{account_of};
 ghost use Rattle.account.specs.code.Lent.{account_in, note_count, Lendable};
 ghost use Rattle.account.specs.code.Standing.{Stands, PartOf, WhereOf};
 
-use crate::accounts::{Account, Whereabouts, supplier};
+use crate::accounts::{Account, Whereabouts, supplied};
 use crate::notes::noted;
 use crate::parts::{CONTRACTS, ENTRIES, OWN, PARTS, PROMPTS, RATES, ROWS, SPREADS};
-use crate::stretches::stretch;
+use std::array;
 
 // Where what is noted begins: of each part where it begins in its file, and how many records it has; the contracts' numbers in order; for
 // each contract 1 where the noon file supplies it; how many records the account has, and how many contracts.
@@ -27,110 +25,47 @@ const LISTED: usize = RECORDS + 1;
 
 pub const NOTES: usize = LISTED + 1;
 
-// Numbers put in the notes from a place on.
-fn put_at(notes: &mut [u16; NOTES], at: usize, numbers: &[u16])
-    requires { (at + length numbers.now ≤ note_count) × (length notes.old ≡ note_count) }
-    ensures { (take (at + length numbers.now) notes.new ≡ take at notes.old ++ numbers.now)
-        × (length notes.new ≡ length notes.old) }
-{
-    let mut i = 0;
-    while i < numbers.len() {
-        notes[at + i] = numbers[i];
-        i += 1;
-    }
-}
-
-fn widened(x: u8) -> u16
-    ensures { result ≡ x }
-{
-    x as u16
-}
-
-// The contracts' numbers, as notes.
-fn noted_numbers(numbers: &[u8; CONTRACTS]) -> [u16; CONTRACTS]
-    requires { length numbers.now ≡ most_contracts }
-    ensures { result ≡ numbers.now }
-{
-    let mut noted = [0u16; CONTRACTS];
-    let mut i = 0;
-    while i < CONTRACTS {
-        noted[i] = widened(numbers[i]);
-        i += 1;
-    }
-    noted
-}
-
-fn one_if(b: bool) -> u16
-    ensures { result ≡ one_if b }
-{
-    if b { 1 } else { 0 }
-}
-
-// Which contracts the noon file supplies, as notes.
-fn noted_flags(flags: &[bool; CONTRACTS]) -> [u16; CONTRACTS]
-    requires { length flags.now ≡ most_contracts }
-    ensures { result ≡ map one_if flags.now }
-{
-    let mut noted = [0u16; CONTRACTS];
-    let mut i = 0;
-    while i < CONTRACTS {
-        noted[i] = one_if(flags[i]);
-        i += 1;
-    }
-    noted
-}
-
 // An account put in an array to be lent.
 pub fn lend(account: Account, notes: &mut [u16; NOTES])
     requires { Lendable account × (length notes.old ≡ note_count) }
     ensures { account_in notes.new ≡ account }
 {
-    let first = account.first;
-    put_at(notes, 0, &first);
-    let counts = account.counts;
-    put_at(notes, COUNTS, &counts);
-    let its_numbers = account.numbers;
-    let numbers = noted_numbers(&its_numbers);
-    put_at(notes, NUMBERS, &numbers);
-    let supplied = account.noon;
-    let late = noted_flags(&supplied);
-    put_at(notes, LATE, &late);
-    let totals = [account.records as u16, account.contracts as u16];
-    put_at(notes, RECORDS, &totals);
+    notes[..COUNTS].copy_from_slice(&account.first);
+    notes[COUNTS..NUMBERS].copy_from_slice(&account.counts);
+    let numbers: [u16; CONTRACTS] = array::from_fn(|c| u16::from(account.numbers[c]));
+    let late: [u16; CONTRACTS] = array::from_fn(|c| u16::from(account.noon[c]));
+    notes[NUMBERS..LATE].copy_from_slice(&numbers);
+    notes[LATE..RECORDS].copy_from_slice(&late);
+    notes[RECORDS] = account.records as u16;
+    notes[LISTED] = account.contracts as u16;
 }
 
 // How many records the account has.
 pub fn record_total(account: &[u16; NOTES]) -> usize
     ensures { result ≡ (account_in account.now).records }
 {
-    noted(account, RECORDS)
+    usize::from(account[RECORDS])
 }
 
 // How many contracts it lists.
 pub fn contract_total(account: &[u16; NOTES]) -> usize
     ensures { result ≡ (account_in account.now).contracts }
 {
-    noted(account, LISTED)
+    usize::from(account[LISTED])
 }
 
 // The number of the i-th contract.
 pub fn contract_number(account: &[u16; NOTES], i: usize) -> usize
     ensures { result ≡ get_or (account_in account.now).numbers i 0 }
 {
-    if CONTRACTS <= i {
-        return 0;
-    }
-    noted(account, NUMBERS + i)
+    noted(&account[NUMBERS..LATE], i)
 }
 
 // How many records part `v` has.
 pub fn part_total(account: &[u16; NOTES], v: usize) -> usize
     ensures { result ≡ get_or (account_in account.now).counts v 0 }
 {
-    if PARTS <= v {
-        return 0;
-    }
-    noted(account, COUNTS + v)
+    noted(&account[COUNTS..NUMBERS], v)
 }
 
 // The records of part `v`, as they stand in whichever file supplies them.
@@ -141,9 +76,8 @@ pub fn part<'a>(morning: &'a [u8], noon: &'a [u8], account: &[u16; NOTES], v: us
     if RATES < v {
         return &morning[..0];
     }
-    let late = (v < ENTRIES) & (noted(account, LATE + v % CONTRACTS) != 0);
-    let file = supplier(morning, noon, late);
-    stretch(file, noted(account, v), noted(account, COUNTS + v))
+    let late = (v < ENTRIES) & (account[LATE + v % CONTRACTS] != 0);
+    supplied(morning, noon, late, account[v], account[COUNTS + v])
 }
 
 // Where the parts of contract `c` stand.

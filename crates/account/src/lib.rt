@@ -4,7 +4,6 @@
 pub mod answers; // answers.rt: what comes back
 pub mod stretches; // stretches.rt: records as they stand in a file
 pub mod rates; // rates.rt: the rates as a table, and what a row comes to by it
-mod prompts; // prompts.rt: a prompt by its day or its tier
 pub mod parts; // parts.rt: the parts of a file
 pub mod notes; // notes.rt: what the check notes of the records passed
 pub mod listed; // listed.rt: refusal 7

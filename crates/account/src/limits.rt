@@ -17,19 +17,12 @@ pub(crate) const MOST_ENTRIES: usize = 32;
 pub(crate) fn over_limit(counts: &[u16], r: &[u8]) -> bool
     ensures { result ≡ over_limit_by counts.now r.now }
 {
-    let k = kind(r);
     let count = noted(counts, part_of(r));
-    if k == 2 {
-        return MOST_PROMPTS <= count;
+    match kind(r) {
+        2 => MOST_PROMPTS <= count,
+        3 => MOST_ROWS <= count,
+        4 => MOST_SPREADS <= count,
+        5 => MOST_ENTRIES <= count,
+        _ => false,
     }
-    if k == 3 {
-        return MOST_ROWS <= count;
-    }
-    if k == 4 {
-        return MOST_SPREADS <= count;
-    }
-    if k == 5 {
-        return MOST_ENTRIES <= count;
-    }
-    false
 }

@@ -7,9 +7,8 @@ ghost use Rattle.account.specs.Records.{records};
 
 use crate::notes::noted;
 use crate::parts::OWN;
-use crate::prompts::{place_of_day, place_of_tier};
-use crate::stretches::record_count;
-use record::fields::{contract, day, kind, leg_count, leg_tier, second_contract};
+use crate::stretches::{record_count, whole_at};
+use record::fields::{contract, day, kind, leg_count, leg_tier, second_contract, tier};
 
 pub(crate) fn no_contract(counts: &[u16], c: usize) -> bool
     requires { c < 256 }
@@ -22,13 +21,13 @@ pub(crate) fn no_contract(counts: &[u16], c: usize) -> bool
 pub fn no_day(prompts: &[u8], d: usize) -> bool
     ensures { result ≡ no_day (records prompts.now) d }
 {
-    record_count(prompts) <= place_of_day(prompts, d)
+    !(0..record_count(prompts)).any(|i| day(whole_at(prompts, i)) == d)
 }
 
 fn no_tier(prompts: &[u8], t: usize) -> bool
     ensures { result ≡ no_tier (records prompts.now) t }
 {
-    record_count(prompts) <= place_of_tier(prompts, t)
+    !(0..record_count(prompts)).any(|i| tier(whole_at(prompts, i)) == t)
 }
 
 fn no_leg_tier(prompts: &[u8], r: &[u8], leg: usize) -> bool
@@ -51,18 +50,11 @@ fn some_leg_tier(prompts: &[u8], r: &[u8]) -> bool
 pub(crate) fn unlisted(counts: &[u16], prompts: &[u8], r: &[u8]) -> bool
     ensures { result ≡ unlisted_by counts.now (records prompts.now) r.now }
 {
-    let k = kind(r);
-    if k == 2 {
-        return no_contract(counts, contract(r));
+    match kind(r) {
+        2 => no_contract(counts, contract(r)),
+        3 => no_contract(counts, contract(r)) | no_day(prompts, day(r)),
+        4 => no_contract(counts, contract(r)) | some_leg_tier(prompts, r),
+        5 => no_contract(counts, contract(r)) | no_contract(counts, second_contract(r)),
+        _ => false,
     }
-    if k == 3 {
-        return no_contract(counts, contract(r)) | no_day(prompts, day(r));
-    }
-    if k == 4 {
-        return no_contract(counts, contract(r)) | some_leg_tier(prompts, r);
-    }
-    if k == 5 {
-        return no_contract(counts, contract(r)) | no_contract(counts, second_contract(r));
-    }
-    false
 }

@@ -100,24 +100,13 @@ fn currency_not_above(before: &[u8], r: &[u8]) -> bool
 pub(crate) fn out_of_order(before: &[u8], r: &[u8]) -> bool
     ensures { result ≡ out_of_order before.now r.now }
 {
-    let k = kind(r);
-    if k == 1 {
-        return number_not_above(before, r);
+    match kind(r) {
+        1 => number_not_above(before, r),
+        2 => day_not_above(before, r) | tier_falls(before, r),
+        3 => contract_falls(before, r),
+        4 => spread_out_of_order(before, r),
+        5 => with_itself(r),
+        6 => currency_not_above(before, r),
+        _ => false,
     }
-    if k == 2 {
-        return day_not_above(before, r) | tier_falls(before, r);
-    }
-    if k == 3 {
-        return contract_falls(before, r);
-    }
-    if k == 4 {
-        return spread_out_of_order(before, r);
-    }
-    if k == 5 {
-        return with_itself(r);
-    }
-    if k == 6 {
-        return currency_not_above(before, r);
-    }
-    false
 }

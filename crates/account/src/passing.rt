@@ -1,6 +1,6 @@
 // Runs of sound records: a contract's own record, the prompts, rows or interprompt spreads of a contract, or intercontract spreads, that get no
 // refusal. A record that stops a run is asked about by itself.
-ghost use Rattle.std.specs.Prelude.{◌≡◌, not, ◌||◌, ◌+◌, ◌≤◌, ◌<◌, ◌-◌, min, length};
+ghost use Rattle.std.specs.Prelude.{◌≡◌, ℕ, true, not, ◌||◌, ◌+◌, ◌≤◌, ◌<◌, ◌-◌, min, length};
 ghost use Rattle.exact.specs.Lists.{any};
 ghost use Rattle.record.specs.Layout.{record_bytes, day, two_legs, legs_of};
 ghost use Rattle.account.specs.Check.{kind_falls, contract_falls, same_leg, most_rows};
@@ -27,12 +27,6 @@ use record::refusals::{sound_contract, sound_entry, sound_prompt, sound_row, sou
 // A tier is a byte.
 const TIER_BYTES: usize = 256;
 
-fn lesser(a: usize, b: usize) -> usize
-    ensures { result ≡ min a b }
-{
-    if a < b { a } else { b }
-}
-
 fn short_day(r: &[u8]) -> u32
     ensures { result ≡ day r.now }
 {
@@ -43,12 +37,9 @@ fn short_day(r: &[u8]) -> u32
 fn days_of(prompts: &[u8]) -> [u32; MOST_PROMPTS]
     ensures { DaysListed (records prompts.now) result }
 {
-    let end = lesser(record_count(prompts), MOST_PROMPTS);
     let mut days = [0u32; MOST_PROMPTS];
-    let mut j = 0;
-    while j < end {
+    for j in 0..record_count(prompts).min(MOST_PROMPTS) {
         days[j] = short_day(whole_at(prompts, j));
-        j += 1;
     }
     days
 }
@@ -58,10 +49,8 @@ fn has_day(days: &[u32; MOST_PROMPTS], d: u32) -> bool
     ensures { result ≡ has_day days.now d }
 {
     let mut found = false;
-    let mut j = 0;
-    while j < MOST_PROMPTS {
-        found = found | (days[j] == d);
-        j += 1;
+    for day in days {
+        found |= *day == d;
     }
     found
 }
@@ -70,13 +59,9 @@ fn has_day(days: &[u32; MOST_PROMPTS], d: u32) -> bool
 fn tiers_of(prompts: &[u8]) -> [bool; TIER_BYTES]
     ensures { TiersListed (records prompts.now) result }
 {
-    let count = record_count(prompts);
     let mut listed = [false; TIER_BYTES];
-    let mut j = 0;
-    while j < count {
-        let t = tier(whole_at(prompts, j));
-        listed[t] = true;
-        j += 1;
+    for j in 0..record_count(prompts) {
+        listed[tier(whole_at(prompts, j))] = true;
     }
     listed
 }
@@ -92,8 +77,7 @@ fn leg_unlisted(listed: &[bool; TIER_BYTES], r: &[u8], leg: usize) -> bool
     requires { (leg ≤ 2) × (record_bytes ≤ length r.now) }
     ensures { result ≡ leg_unlisted_in listed.now r.now leg }
 {
-    let t = leg_tier_in(r, leg);
-    !listed[t]
+    !listed[leg_tier_in(r, leg)]
 }
 
 // Of a whole spread. Here and below there is no way out before the end.
@@ -133,13 +117,7 @@ fn legs_meet(r: &[u8]) -> bool
 fn contract_passes(before: &[u8], r: &[u8]) -> bool
     ensures { result ≡ contract_passes before.now r.now }
 {
-    if kind_falls(before, r) {
-        return false;
-    }
-    if number_not_above(before, r) {
-        return false;
-    }
-    sound_contract(r)
+    !kind_falls(before, r) && !number_not_above(before, r) && sound_contract(r)
 }
 
 fn prompt_passes(before: &[u8], r: &[u8], c: usize) -> bool
@@ -159,16 +137,7 @@ fn row_passes(days: &[u32; MOST_PROMPTS], r: &[u8], c: usize, other: bool) -> bo
 fn spread_passes(listed: &[bool; TIER_BYTES], r: &[u8], c: usize) -> bool
     ensures { result ≡ spread_passes c listed.now r.now }
 {
-    if r.len() < RECORD_BYTES {
-        return false;
-    }
-    if !sound_spread(r, c) {
-        return false;
-    }
-    if legs_meet(r) {
-        return false;
-    }
-    !some_leg_unlisted(listed, r)
+    RECORD_BYTES <= r.len() && sound_spread(r, c) && !legs_meet(r) && !some_leg_unlisted(listed, r)
 }
 
 fn entry_passes(counts: &[u16], r: &[u8]) -> bool
@@ -179,71 +148,20 @@ fn entry_passes(counts: &[u16], r: &[u8]) -> bool
     sound_entry(r) & !(no_contract(counts, c) | (no_contract(counts, other) | (c == other)))
 }
 
-// The first record from `k` on that does not pass as a prompt of contract `c`, or `end`.
-fn prompts_to(file: &[u8], c: usize, k: usize, end: usize) -> usize
-    requires { (1 ≤ k) × ((k ≤ end) × (end ≤ record_count file.now)) }
-    ensures { RunTo (λ j. prompt_passes c (record_at file.now (j - 1)) (record_at file.now j)) k end result }
+// The first number from `k` on that does not pass, or `end`.
+fn run_to<F: Fn(usize) -> bool>(k: usize, end: usize, passes: F) -> usize
+    requires within { k ≤ end }
+    requires callable { (j : ℕ) → k ≤ j → j < end → F.pre passes j }
+    ensures low { k ≤ result }
+    ensures high { result ≤ end }
+    ensures each { (j : ℕ) → k ≤ j → j < result → F.post passes j true }
 {
-    let mut i = k;
-    while i < end {
-        if !prompt_passes(whole_at(file, i - 1), whole_at(file, i), c) {
+    for i in k..end {
+        if !passes(i) {
             return i;
         }
-        i += 1;
     }
-    i
-}
-
-// The same of a row.
-fn rows_to(
-    file: &[u8],
-    days: &[u32; MOST_PROMPTS],
-    c: usize,
-    other: bool,
-    k: usize,
-    end: usize,
-) -> usize
-    requires { (k ≤ end) × (end ≤ record_count file.now) }
-    ensures { RunTo (λ j. row_passes c days.now other (record_at file.now j)) k end result }
-{
-    let mut i = k;
-    while i < end {
-        if !row_passes(days, whole_at(file, i), c, other) {
-            return i;
-        }
-        i += 1;
-    }
-    i
-}
-
-// The same of an interprompt spread.
-fn spreads_to(file: &[u8], listed: &[bool; TIER_BYTES], c: usize, k: usize, end: usize) -> usize
-    requires { (k ≤ end) × (end ≤ record_count file.now) }
-    ensures { RunTo (λ j. spread_passes c listed.now (record_at file.now j)) k end result }
-{
-    let mut i = k;
-    while i < end {
-        if !spread_passes(listed, whole_at(file, i), c) {
-            return i;
-        }
-        i += 1;
-    }
-    i
-}
-
-// The same of an intercontract spread.
-fn entries_to(file: &[u8], counts: &[u16], k: usize, end: usize) -> usize
-    requires { (k ≤ end) × (end ≤ record_count file.now) }
-    ensures { RunTo (λ j. entry_passes counts.now (record_at file.now j)) k end result }
-{
-    let mut i = k;
-    while i < end {
-        if !entry_passes(counts, whole_at(file, i)) {
-            return i;
-        }
-        i += 1;
-    }
-    i
+    end
 }
 
 // Up to where records from `k` on may be of a part that has `n` records and may have `most`.
@@ -251,13 +169,7 @@ fn room_to(k: usize, count: usize, n: usize, most: usize) -> usize
     requires { (k ≤ count) × (most ≤ most_rows) }
     ensures { result ≡ min (k + (most - n)) count }
 {
-    if most <= n {
-        return k;
-    }
-    if count - k < most - n {
-        return count;
-    }
-    k + (most - n)
+    k + most.saturating_sub(n).min(count - k)
 }
 
 fn prompts_from(file: &[u8], first: &[u16], counts: &[u16], k: usize, c: usize) -> usize
@@ -270,7 +182,11 @@ fn prompts_from(file: &[u8], first: &[u16], counts: &[u16], k: usize, c: usize) 
         noted(counts, PROMPTS + c),
         MOST_PROMPTS,
     );
-    prompts_to(file, c, k, end)
+    run_to(
+        k,
+        end,
+        |i| prompt_passes(whole_at(file, i - 1), whole_at(file, i), c),
+    )
 }
 
 // A run that begins with a row in the margin currency goes on over such rows alone.
@@ -281,7 +197,7 @@ fn rows_from(file: &[u8], first: &[u16], counts: &[u16], k: usize, c: usize) -> 
     let end = room_to(k, record_count(file), noted(counts, ROWS + c), MOST_ROWS);
     let days = days_of(part_at(file, first, counts, PROMPTS + c));
     let other = is_other_row(whole_at(file, k));
-    rows_to(file, &days, c, other, k, end)
+    run_to(k, end, |i| row_passes(&days, whole_at(file, i), c, other))
 }
 
 fn spreads_from(file: &[u8], first: &[u16], counts: &[u16], k: usize, c: usize) -> usize
@@ -295,7 +211,7 @@ fn spreads_from(file: &[u8], first: &[u16], counts: &[u16], k: usize, c: usize) 
         MOST_SPREADS,
     );
     let listed = tiers_of(part_at(file, first, counts, PROMPTS + c));
-    spreads_to(file, &listed, c, k, end)
+    run_to(k, end, |i| spread_passes(&listed, whole_at(file, i), c))
 }
 
 // Intercontract spreads have no order among themselves.
@@ -307,7 +223,7 @@ fn entries_from(file: &[u8], first: &[u16], counts: &[u16], k: usize) -> usize
         return k;
     }
     let end = room_to(k, record_count(file), noted(counts, ENTRIES), MOST_ENTRIES);
-    entries_to(file, counts, k, end)
+    run_to(k, end, |i| entry_passes(counts, whole_at(file, i)))
 }
 
 // Whether a record of contract `c` may begin or go on a run.
@@ -328,10 +244,11 @@ pub(crate) fn passes_from(file: &[u8], first: &[u16], counts: &[u16], k: usize) 
     let r = whole_at(file, k);
     let n = kind(r);
     if n == 1 {
-        if contract_passes(whole_before(file, k), r) {
-            return k + 1;
-        }
-        return k;
+        return if contract_passes(whole_before(file, k), r) {
+            k + 1
+        } else {
+            k
+        };
     }
     if k == 0 {
         return k;
@@ -343,14 +260,10 @@ pub(crate) fn passes_from(file: &[u8], first: &[u16], counts: &[u16], k: usize) 
     if !may_run(counts, whole_at(file, k - 1), r, c) {
         return k;
     }
-    if n == 2 {
-        return prompts_from(file, first, counts, k, c);
+    match n {
+        2 => prompts_from(file, first, counts, k, c),
+        3 => rows_from(file, first, counts, k, c),
+        4 => spreads_from(file, first, counts, k, c),
+        _ => k,
     }
-    if n == 3 {
-        return rows_from(file, first, counts, k, c);
-    }
-    if n == 4 {
-        return spreads_from(file, first, counts, k, c);
-    }
-    k
 }

@@ -13,7 +13,6 @@ ghost use Rattle.account.specs.code.Rates.{RatesOf, HoldsRates};
 
 use crate::stretches::{record_count, whole_at};
 use exact::rounding::half_away;
-use exact::signed::{as_signed, is_negative, magnitude, times};
 use record::fields::{
     SCENARIOS, adjustment, currency, loss, lots, rate_currency, spot_rate, value,
 };
@@ -49,28 +48,17 @@ fn raised(rate: &[u8]) -> u64
 fn lowered(rate: &[u8]) -> u64
     ensures { result ≡ Products.lowered rate.now }
 {
-    let percent = adjustment(rate);
-    if 100 < percent {
-        return 0;
-    }
-    (spot_rate(rate) * (100 - percent)) as u64
+    (spot_rate(rate) * 100usize.saturating_sub(adjustment(rate))) as u64
 }
 
-// The table with one rate more, before the others.
-fn with_rate(t: Rates, rate: &[u8]) -> Rates
-    ensures { (rates : List Record) → RatesOf rates t → RatesOf (rate.now ∷ rates) result }
+// One rate more put in the table, before the others.
+fn put_rate(t: &mut Rates, rate: &[u8])
+    ensures { (rates : List Record) → RatesOf rates t.old → RatesOf (rate.now ∷ rates) t.new }
 {
     let c = rate_currency(rate);
-    if CURRENCIES <= c {
-        return t;
-    }
-    let mut up = t.raised;
-    let mut down = t.lowered;
-    up[c] = raised(rate);
-    down[c] = lowered(rate);
-    Rates {
-        raised: up,
-        lowered: down,
+    if c < CURRENCIES {
+        t.raised[c] = raised(rate);
+        t.lowered[c] = lowered(rate);
     }
 }
 
@@ -89,11 +77,8 @@ pub fn rates_of(rates: &[u8]) -> Rates
     ensures { RatesOf (records rates.now) result }
 {
     let mut t = no_rates();
-    let mut i = record_count(rates);
-    while 0 < i {
-        i -= 1;
-        let more = with_rate(t, whole_at(rates, i));
-        t = more;
+    for i in (0..record_count(rates)).rev() {
+        put_rate(&mut t, whole_at(rates, i));
     }
     t
 }
@@ -114,13 +99,13 @@ pub fn per_tick(row: &[u8]) -> i64
     requires { (nat_abs (lots row.now) ≤ hundred_thousand) × (value row.now ≤ most_value) }
     ensures { Sized most_per_tick (lots row.now *ℤ pos (value row.now)) result }
 {
-    times(lots(row), as_signed(value(row) as u64))
+    lots(row) * value(row) as i64
 }
 
 fn factor(f: Factors, z: i64) -> u64
     ensures { result ≡ cond (negative z) f.lowered f.raised }
 {
-    if is_negative(z) { f.lowered } else { f.raised }
+    if z < 0 { f.lowered } else { f.raised }
 }
 
 // A loss at the raised rate, a gain at the lowered one.
@@ -137,16 +122,7 @@ pub(crate) fn has_rate(t: Rates, row: &[u8]) -> bool
     ensures { (rates : List Record) → RatesOf rates t → Each RateWithin rates → result ≡ has_rate rates row.now }
 {
     let c = currency(row);
-    if c == 0 {
-        return true;
-    }
-    t.raised[c] != 0
-}
-
-fn is_beyond(z: i64) -> bool
-    ensures { result ≡ ltb most_conversion (nat_abs z) }
-{
-    MOST_CONVERSION < magnitude(z)
+    c == 0 || t.raised[c] != 0
 }
 
 // Whether a row's conversion in a scenario is beyond the most.
@@ -154,7 +130,7 @@ fn beyond_in(f: Factors, each: i64, loss: i64) -> bool
     requires { (nat_abs each ≤ most_per_tick) × ((nat_abs loss ≤ hundred_thousand) × ((f.raised ≤ most_factor) × (f.lowered ≤ most_factor))) }
     ensures { result ≡ ltb most_conversion (nat_abs (converted_at f.raised f.lowered (each *ℤ loss))) }
 {
-    is_beyond(converted(f, times(each, loss)))
+    MOST_CONVERSION < converted(f, each * loss).unsigned_abs()
 }
 
 // Whether it is in any.
@@ -163,13 +139,7 @@ fn beyond_in_any(f: Factors, each: i64, row: &[u8]) -> bool
     ensures { result ≡ any (λ s. ltb most_conversion (nat_abs (converted_at f.raised f.lowered (each *ℤ loss row.now s))))
         (count_from 1 scenario_count) }
 {
-    let mut found = false;
-    let mut s = 0;
-    while s < SCENARIOS {
-        found = found | beyond_in(f, each, loss(row, s + 1));
-        s += 1;
-    }
-    found
+    (0..SCENARIOS).any(|s| beyond_in(f, each, loss(row, s + 1)))
 }
 
 // Whether a row is converted to more than the most, in any scenario.
@@ -178,8 +148,5 @@ pub(crate) fn conversion_beyond(t: Rates, row: &[u8]) -> bool
     ensures { (rates : List Record) → RatesOf rates t → result ≡ conversion_beyond rates row.now }
 {
     let c = currency(row);
-    if c == 0 {
-        return false;
-    }
-    beyond_in_any(factors_of(t, c), per_tick(row), row)
+    c != 0 && beyond_in_any(factors_of(t, c), per_tick(row), row)
 }

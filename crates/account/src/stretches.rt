@@ -24,16 +24,14 @@ pub(crate) fn anew(file: &[u8]) -> &[u8]
 pub fn stretch(file: &[u8], k: usize, n: usize) -> &[u8]
     ensures { result.now ≡ Records.stretch file.now k n }
 {
-    if file.len() / RECORD_BYTES < k {
-        let end = file.len();
-        return &file[end..];
+    if record_count(file) < k {
+        return &file[file.len()..];
     }
-    let start = k * RECORD_BYTES;
-    if (file.len() - start) / RECORD_BYTES < n {
-        return &file[start..];
+    let rest = &file[k * RECORD_BYTES..];
+    if record_count(rest) < n {
+        return rest;
     }
-    let end = start + n * RECORD_BYTES;
-    &file[start..end]
+    &rest[..n * RECORD_BYTES]
 }
 
 pub fn record_at(file: &[u8], k: usize) -> &[u8]
@@ -57,7 +55,8 @@ pub(crate) fn whole_before(file: &[u8], k: usize) -> &[u8]
     ensures { result.now ≡ before_at file.now k }
 {
     if k == 0 {
-        return &file[..0];
+        &file[..0]
+    } else {
+        whole_at(file, k - 1)
     }
-    whole_at(file, k - 1)
 }

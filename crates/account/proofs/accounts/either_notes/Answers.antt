@@ -1,35 +1,29 @@
-use mathlib.Core.Path.{◌≡◌, refl, subst}
-use Prim.Native.Nat.{ℕ}
-use native.Mathlib.Nat.{not-suc-le-zero}
+use Prim.Native.Nat.{ℕ, ◌+◌, ◌*◌}
+use mathlib.Core.Path.{◌≡◌, ap, sym, subst, ◌∙◌}
+use mathlib.Core.Bool.{Bool, false, cond}
+use lib.ListN.{get_or}
 use native.Mathlib.Omega.{arith}
-use Rattle.account.specs.PartNumbers.{entry_part}
+use Rattle.account.specs.Check.{most_contracts}
 use Rattle.account.specs.code.Standing.{EitherTo}
+use Rattle.account.proofs.Filled.{either_next}
 use Rattle.account.proofs.accounts.either_notes.Goals as goal
+use Rattle.account.proofs.accounts.either_notes.Goals.{then-late-c, else-late-c}
 
-pub loop-start-init : goal.loop-start-init
-loop-start-init c = (omega arith, (refl, record { long = c.requires; done = λ v h. absurd (not-suc-le-zero h); rest = λ v h. refl }))
+pub loop-c-preserved : goal.loop-c-preserved
+loop-c-preserved c =
+    let l = c.loop-c in
+    let start = most_contracts * c.loop-kind.kind in
+    let noon = c.args.noon.now in
+    let v = start + l.c in
+    let chosen : c.if-late-c.notes ≡ cond (get_or c.args.late.now l.c false) (get_or noon v 0) (get_or l.notes v 0) =
+    elim c.if-late-c.branch [
+      | then-late-c w ↦ w.notes-is ∙ ap (λ (b : Bool). cond b (get_or noon v 0) (get_or l.notes v 0)) (sym w.if-late-c.true)
+      | else-late-c w ↦ w.notes-is ∙ ap (λ (b : Bool). cond b (get_or noon v 0) (get_or l.notes v 0)) (sym w.if-late-c.false)
+    ] in
+    either_next start l.c c.if-late-c.notes (omega arith) c.loop-c-test.true (omega arith) chosen l.invariant
 
-pub either_kind-requires : goal.either_kind-requires
-either_kind-requires c = (c.loop-start.invariant.1.0, c.loop-start-test.true)
-
-pub overflow_add-start : goal.overflow_add-start
-overflow_add-start c = omega (arith, c.loop-start-test.true)
-
-pub loop-start-smaller : goal.loop-start-smaller
-loop-start-smaller c = omega (arith, c.loop-start-test.true)
-
-pub loop-start-preserved : goal.loop-start-preserved
-loop-start-preserved c =
-    let l = c.loop-start in (
-      omega (arith, c.loop-start-test.true, l.invariant.1.0),
-      (
-        omega (arith, l.invariant.1.0),
-        c.either_kind.ensures c.args.morning.now l.invariant.1.1,
-      ),
-    )
-
-pub returns : goal.returns
-returns c =
-    let l = c.loop-start in
-    let all : l.start ≡ entry_part = omega (arith, c.loop-start-test.false, l.invariant.0) in
-    subst (λ (n : ℕ). EitherTo c.args.morning.now c.args.noon.now c.args.late.now n l.notes) all l.invariant.1.1
+pub loop-kind-preserved : goal.loop-kind-preserved
+loop-kind-preserved c =
+    let l = c.loop-c in
+    let all : most_contracts * c.loop-kind.kind + l.c ≡ most_contracts * (c.loop-kind.kind + 1) = omega arith in
+    subst (λ (n : ℕ). EitherTo c.args.morning.now c.args.noon.now c.args.late.now n l.notes) all l.invariant

@@ -5,17 +5,17 @@ use Rattle.account.specs.code.Standing.{lists}
 use Rattle.account.proofs.Filled.{either_all, kept_few}
 use Rattle.account.proofs.accounts.join.Goals as goal
 
-pub numbers_of-listed-requires : goal.numbers_of-listed-requires
-numbers_of-listed-requires c =
+pub numbers_of-count-requires : goal.numbers_of-count-requires
+numbers_of-count-requires c =
     kept_few (lists c.either_notes-counts.result) 0 most_contracts
 
 pub returns : goal.returns
 returns c =
-    let flagged = c.flags-supplied.ensures in
+    let flagged = c.flags-late.ensures in
     record {
       first = either_all flagged c.either_notes-first.ensures;
       counts = either_all flagged c.either_notes-counts.ensures;
       noon = flagged;
-      numbers = c.numbers_of-listed.ensures;
-      records = c.records_in-records.ensures;
+      numbers = c.numbers_of-count.ensures;
+      records = c.records_in.ensures;
     }

@@ -9,10 +9,7 @@ use Rattle.account.specs.code.Standing.{lists}
 use Rattle.account.specs.Check.{most_contracts}
 use Rattle.account.proofs.accounts.numbers_of.Given as goal
 
-abbrev pub invariant-loop-count : goal.invariant-loop-count
-invariant-loop-count l = (length l.number ≡ most_contracts)
-    × ((l.count ≤ l.c) × ((l.c ≤ most_contracts) × ((take l.count l.number ≡ keep (lists l.counts) (count_from 0 l.c))
+abbrev pub invariant-loop-c : goal.invariant-loop-c
+invariant-loop-c l = (length l.number ≡ most_contracts)
+    × ((l.count ≤ l.c) × ((l.count ≤ l.most) × ((take l.count l.number ≡ keep (lists l.counts) (count_from 0 l.c))
     × (drop l.count l.number ≡ replicate (most_contracts - l.count) 0))))
-
-abbrev pub decreases-loop-count : goal.decreases-loop-count
-decreases-loop-count l = most_contracts - l.c

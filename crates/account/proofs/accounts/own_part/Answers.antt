@@ -9,4 +9,4 @@ returns c =
     let s = c.args in
     λ j n st h is.
     part_where s.morning.now s.noon.now j st.places 1 n (omega arith) h _ _ _ is.late is.own is.own_count
-    c.supplier.result.now c.stretch.result.now c.supplier.ensures c.stretch.ensures
+    c.supplied.result.now c.supplied.ensures

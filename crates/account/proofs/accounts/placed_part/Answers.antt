@@ -1,22 +1,12 @@
 -- A part of an account: none past the last, else the stretch that the account notes of it.
 -- Assumes nothing.
-use mathlib.Core.Path.{refl, ap, ◌∙◌}
+use mathlib.Core.Path.{refl}
 use native.Mathlib.Omega.{arith}
-use lib.ListN.{get_or}
-use Rattle.account.specs.Records.{stretch}
-use Rattle.account.specs.Joined.{account_of}
-use Rattle.account.proofs.Standing.{part_past, part_stands}
+use Rattle.account.proofs.Standing.{part_stands}
 use Rattle.account.proofs.accounts.placed_part.Goals as goal
-
-pub returns-then-v-gt-RATES : goal.returns-then-v-gt-RATES
-returns-then-v-gt-RATES c =
-    let s = c.args in
-    part_past (account_of s.morning.now s.noon.now) s.v c.if-v-gt-RATES.true
 
 pub returns : goal.returns
 returns c =
     part_stands c.args.morning.now c.args.noon.now c.args.account c.requires c.args.v
     (omega (arith, c.if-v-gt-RATES.false))
-    _ refl c.stretch.result.now
-    (c.stretch.ensures ∙ ap (λ f. stretch f (get_or c.args.account.first c.args.v 0) (get_or c.args.account.counts c.args.v 0))
-    c.supplier-file.ensures)
+    _ refl c.supplied.result.now c.supplied.ensures

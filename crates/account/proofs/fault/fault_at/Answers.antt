@@ -9,7 +9,6 @@ use Rattle.account.specs.code.Notes.{fault_by, fault_at, part_at, prompts_noted,
 use Rattle.account.specs.Records.{records, record_at}
 use Rattle.account.specs.PartNumbers.{part}
 use Rattle.account.proofs.fault.fault_at.Goals as goal
-use Rattle.account.proofs.fault.fault_at.Goals.{After-whole_at-r, After-whole_before-before, Start}
 
 -- what was read stands in the definition's place
 joined :
@@ -23,28 +22,17 @@ joined file first counts k {r} {b} {ps} {d} hr hd hs hb =
     ∙ ap (λ (x : Record). fault_by counts (prompts_noted file first counts (contract r)) x r) hb
     ∙ ap (λ (x : Record). fault_by counts (prompts_noted file first counts (contract x)) (before_at file k) x) hr
 
--- the record read, the start, and the fault by what was read
-module _ (c : After-whole_before-before) where
-  abbrev read : After-whole_at-r
-  read = (goal.at.faultless-requires c).After-whole_at-r
-
-  abbrev s : Start
-  s = c.before.before.before.before.before.before.before.before
-
-  here : fault_by c.args.counts.now (records c.part_at-prompts.result.now) c.whole_before-before.result.now c.whole_at-r.result.now
-      ≡ fault_at c.args.file.now c.args.first.now c.args.counts.now c.args.k
-  here =
-      joined c.args.file.now c.args.first.now c.args.counts.now c.args.k c.whole_at-r.ensures
-      c.contract.ensures.0 c.part_at-prompts.ensures c.whole_before-before.ensures
-
-pub faultless-requires : goal.faultless-requires
-faultless-requires c = tt
-
 pub returns-then-faultless : goal.returns-then-faultless
 returns-then-faultless c =
-    ap (λ (n : ℕ). refusal n c.args.k) (sym (eqb-true _ 0 (sym c.faultless.ensures ∙ c.if-faultless.true)) ∙ here (goal.at.returns-then-faultless c).After-whole_before-before)
+    ap (λ (n : ℕ). refusal n c.args.k)
+    (sym (eqb-true _ 0 (sym c.faultless.ensures ∙ c.if-faultless.true))
+    ∙ joined c.args.file.now c.args.first.now c.args.counts.now c.args.k c.whole_at-r.ensures c.contract.ensures.0
+    c.part_at-prompts.ensures c.whole_before-before.ensures)
 
 pub returns : goal.returns
 returns c =
     c.refusal_of.ensures
-    ∙ ap (λ (n : ℕ). refusal n c.args.k) (c.fault.ensures ∙ here (goal.at.returns c).After-whole_before-before)
+    ∙ ap (λ (n : ℕ). refusal n c.args.k)
+    (c.fault.ensures
+    ∙ joined c.args.file.now c.args.first.now c.args.counts.now c.args.k c.whole_at-r.ensures c.contract.ensures.0
+    c.part_at-prompts.ensures c.whole_before-before.ensures)

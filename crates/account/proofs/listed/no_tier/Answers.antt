@@ -1,16 +1,18 @@
--- `account::listed::no_tier` meets its contract. Assumes nothing.
-use mathlib.Core.Path.{◌≡◌, sym, ◌∙◌}
-use lib.ListN.{length}
+use mathlib.Core.Bool.{not}
+use mathlib.Core.Path.{ap, ◌∙◌}
+use native.Mathlib.Omega.{arith}
+use Rattle.std.proofs.Common.{rules, tests}
+use Rattle.std.proofs.lemmas.Iterator.{YieldsList-from_range}
+use Rattle.std.proofs.lemmas.Iterator.Search.{any_from_yields_List}
 use Rattle.account.specs.Parts.{on_tier}
-use Rattle.account.specs.Records.{records, record_count}
-use Rattle.account.proofs.Walk.{length_cut, none-place}
+use Rattle.account.specs.Records.{record_at, record_count}
+use Rattle.account.proofs.Walk.{any_at_places}
 use Rattle.account.proofs.listed.no_tier.Goals as goal
 
 pub returns : goal.returns
 returns c =
-    let args = c.args in
-    let p = on_tier args.t in
-    let ps = records args.prompts.now in
-    let n : c.record_count.result ≡ length ps = c.record_count.ensures ∙ sym
-    (length_cut (record_count args.prompts.now) args.prompts.now) in
-    rw (n, c.place_of_tier.ensures) (none-place p ps)
+    let file = c.args.prompts.now in
+    let n = record_count file in
+    ap not (any_from_yields_List (λ i. on_tier c.args.t (record_at file i)) _ _ _ c.any.ensures.ran
+    (YieldsList-from_range 0 n n (cc) (omega arith)) (λ i b q k. search (rules, tests))
+    ∙ any_at_places (on_tier c.args.t) file)

@@ -10,9 +10,6 @@ use Rattle.account.specs.code.Passing.{has_day}
 use Rattle.account.specs.Check.{most_prompts}
 use Rattle.account.proofs.passing.has_day.Given as goal
 
-abbrev pub invariant-loop-j : goal.invariant-loop-j
-invariant-loop-j l =
-    has_day l.days l.d ≡ l.found || any (λ i. eqb (get_or l.days i 0) l.d) (count_from l.j (most_prompts - l.j))
-
-abbrev pub decreases-loop-j : goal.decreases-loop-j
-decreases-loop-j l = most_prompts - l.j
+abbrev pub invariant-loop-day : goal.invariant-loop-day
+invariant-loop-day l =
+    has_day l.days l.d ≡ l.found || any (λ i. eqb (get_or l.days i 0) l.d) (count_from l.day-index (most_prompts - l.day-index))

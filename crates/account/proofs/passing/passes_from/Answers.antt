@@ -22,28 +22,12 @@ returns-then-contract_passes c =
     contract_run c.args.file.now c.args.first.now c.args.counts.now c.args.k c.requires.0
     c.whole_before.ensures c.whole_at-r.ensures (sym c.contract_passes.ensures ∙ c.if-contract_passes.true)
 
-pub returns-then-n-eq1 : goal.returns-then-n-eq1
-returns-then-n-eq1 c =
-    none_run c.args.file.now c.args.first.now c.args.counts.now c.args.k (omega (arith, c.requires.0))
-
-pub returns-then-k-eq0 : goal.returns-then-k-eq0
-returns-then-k-eq0 c =
-    none_run c.args.file.now c.args.first.now c.args.counts.now c.args.k (omega (arith, c.requires.0))
-
-pub returns-then-not-may_run : goal.returns-then-not-may_run
-returns-then-not-may_run c =
-    none_run c.args.file.now c.args.first.now c.args.counts.now c.args.k (omega (arith, c.requires.0))
-
 pub prompts_from-requires : goal.prompts_from-requires
-prompts_from-requires c = begins (goal.at.prompts_from-requires c).Else-not-may_run 2 c.if-n-eq2.true
+prompts_from-requires c = begins (goal.at.prompts_from-requires c).Else-not-may_run 2 c.in-2.is
 
 pub rows_from-requires : goal.rows_from-requires
-rows_from-requires c = begins (goal.at.rows_from-requires c).Else-not-may_run 3 c.if-n-eq3.true
+rows_from-requires c = begins (goal.at.rows_from-requires c).Else-not-may_run 3 c.in-3.is
 
 pub spreads_from-requires : goal.spreads_from-requires
 spreads_from-requires c =
-    begins (goal.at.spreads_from-requires c).Else-not-may_run 4 c.if-n-eq4.true
-
-pub returns : goal.returns
-returns c =
-    none_run c.args.file.now c.args.first.now c.args.counts.now c.args.k (omega (arith, c.requires.0))
+    begins (goal.at.spreads_from-requires c).Else-not-may_run 4 c.in-4.is

@@ -4,11 +4,10 @@ use mathlib.Core.Path.{◌≡◌, ◌∙◌, sym, ap, ap₂, subst}
 use mathlib.Core.Bool.{Bool, false, not, ◌&&◌, cond}
 use mathlib.Core.List.{List}
 use Prim.Native.Nat.{ℕ, ◌≤◌}
-use native.Mathlib.Omega.{arith}
 use lib.Dec.{eqb, ltb}
 use lib.IntN.{ℤ, pos, nat_abs, ◌*ℤ◌}
 use lib.ListN.{get_or}
-use borrow.Author.Tests.{eq-eqb, ne_eqb}
+use borrow.Author.Tests.{ne_eqb}
 use Rattle.exact.specs.Lists.{any}
 use Rattle.exact.proofs.Integers.{back}
 use Rattle.record.specs.Bytes.{count_from}
@@ -17,7 +16,7 @@ use Rattle.account.specs.Products.{in_own, rate_for, raised, lowered, converted_
 use Rattle.account.specs.code.Rates.{RatesOf}
 use Rattle.account.proofs.ProductLaws.{factors_within}
 use Rattle.account.proofs.rates.conversion_beyond.Goals as goal
-use Rattle.account.proofs.rates.conversion_beyond.Goals.{After-factors_of, Start}
+use Rattle.account.proofs.rates.conversion_beyond.Goals.{After-factors_of}
 
 -- the refusal, by whether the row is in the margin currency
 abbrev by-currency : List Record → Record → Bool → Bool
@@ -30,9 +29,6 @@ by-factors row up down each = any (λ s. ltb most_conversion (nat_abs (converted
 
 -- the factors are those of the row's currency
 module _ (c : After-factors_of) where
-  abbrev s : Start
-  s = (goal.at.per_tick-requires c).Start
-
   abbrev row : Record
   row = c.args.row.now
 
@@ -48,19 +44,6 @@ module _ (c : After-factors_of) where
       ∙ ap (λ (k : ℕ). get_or c.args.t.lowered k 0) c.currency-c.ensures.0
       ∙ held.lowered_are (currency row) c.requires.0.currencies
 
-pub returns-then-c-eq0 : goal.returns-then-c-eq0
-returns-then-c-eq0 c =
-    let row = c.args.row.now in
-    λ rates held. ap (by-currency rates row) (sym (eq-eqb (currency row) 0 (sym c.currency-c.ensures.0 ∙ c.if-c-eq0.true)))
-
-pub factors_of-requires : goal.factors_of-requires
-factors_of-requires c =
-    omega (arith, c.currency-c.ensures.0, c.requires.0.currencies)
-
-pub per_tick-requires : goal.per_tick-requires
-per_tick-requires c =
-    let w = c.requires.0 in (w.lotss, w.values.most)
-
 pub beyond_in_any-requires : goal.beyond_in_any-requires
 beyond_in_any-requires c =
     let h = c.requires.1 in
@@ -75,14 +58,14 @@ beyond_in_any-requires c =
       ),
     )
 
-pub returns : goal.returns
-returns c =
-    let row = (s (goal.at.returns c).After-factors_of).args.row.now in
+pub returns-then-c-ne0 : goal.returns-then-c-ne0
+returns-then-c-ne0 c =
+    let row = c.args.row.now in
     let t = c.per_tick in
     let is = c.currency-c.ensures.0 in
-    let other : eqb (currency row) 0 ≡ false = ne_eqb (currency row) 0 (λ e. c.if-c-eq0.false (is ∙ e)) in
+    let other : eqb (currency row) 0 ≡ false = ne_eqb (currency row) 0 (λ e. c.if-c-ne0.true (is ∙ e)) in
     λ rates held.
     c.beyond_in_any.ensures
     ∙ ap (by-factors row c.factors_of.result.raised c.factors_of.result.lowered) (back t.result (record { sfits = t.type_inv }) ∙ t.ensures.is)
-    ∙ ap₂ (λ (up down : ℕ). by-factors row up down (lots row *ℤ pos (value row))) (raised_is (goal.at.returns c).After-factors_of rates held) (lowered_is (goal.at.returns c).After-factors_of rates held)
+    ∙ ap₂ (λ (up down : ℕ). by-factors row up down (lots row *ℤ pos (value row))) (raised_is (goal.at.returns-then-c-ne0 c).After-factors_of rates held) (lowered_is (goal.at.returns-then-c-ne0 c).After-factors_of rates held)
     ∙ ap (by-currency rates row) (sym other)

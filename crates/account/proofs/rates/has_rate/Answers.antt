@@ -3,32 +3,17 @@
 use mathlib.Core.Path.{◌≡◌, ◌∙◌, sym, ap}
 use mathlib.Core.Bool.{Bool, false, not, ◌||◌}
 use Prim.Native.Nat.{ℕ}
-use native.Mathlib.Omega.{arith}
 use lib.Dec.{eqb}
 use lib.ListN.{get_or}
-use borrow.Author.Tests.{eq-eqb, ne_eqb}
+use borrow.Author.Tests.{ne_eqb}
 use Rattle.exact.specs.Lists.{any}
 use Rattle.record.specs.Layout.{currency}
 use Rattle.account.specs.Products.{of_currency}
 use Rattle.account.proofs.ProductLaws.{rate_known}
 use Rattle.account.proofs.rates.has_rate.Goals as goal
 
-pub returns-then-c-eq0 : goal.returns-then-c-eq0
-returns-then-c-eq0 c =
-    let row = c.args.row.now in
-    λ rates held within. ap (λ (t : Bool). t || any (of_currency (currency row)) rates)
-    (sym (eq-eqb (currency row) 0 (sym c.currency-c.ensures.0 ∙ c.if-c-eq0.true)))
-
-pub offset_bounds-t-c : goal.offset_bounds-t-c
-offset_bounds-t-c c =
-    omega (arith, c.currency-c.ensures.0, c.requires)
-
-pub bounds-t-c : goal.bounds-t-c
-bounds-t-c c =
-    omega (arith, c.currency-c.ensures.0, c.requires)
-
-pub returns : goal.returns
-returns c =
+pub returns-else-c-eq0 : goal.returns-else-c-eq0
+returns-else-c-eq0 c =
     let row = c.args.row.now in
     let is : c.currency-c.result ≡ currency row = c.currency-c.ensures.0 in
     let some : eqb (currency row) 0 ≡ false = ne_eqb (currency row) 0 (λ e. c.if-c-eq0.false (is ∙ e)) in

@@ -1,7 +1,7 @@
 -- `rates_of`: the table of the rates from place i on.
 -- Assumes nothing.
 use mathlib.Core.List.{List}
-use Prim.Native.Nat.{ℕ, ◌-◌, ◌*◌, ◌≤◌}
+use Prim.Native.Nat.{ℕ, ◌-◌, ◌*◌}
 use lib.ListN.{drop}
 use Rattle.record.specs.Bytes.{record_bytes}
 use Rattle.record.specs.Layout.{Record}
@@ -13,7 +13,4 @@ abbrev pub from-here : List ℕ → ℕ → List Record
 from-here file i = cut (record_count file - i) (drop (i * record_bytes) file)
 
 abbrev pub invariant-loop-i : goal.invariant-loop-i
-invariant-loop-i l = (l.i ≤ record_count l.rates) × RatesOf (from-here l.rates l.i) l.t
-
-abbrev pub decreases-loop-i : goal.decreases-loop-i
-decreases-loop-i l = l.i
+invariant-loop-i l = RatesOf (from-here l.rates l.i) l.t

@@ -1,5 +1,0 @@
--- `account::order::kind_falls` meets its contract. Assumes nothing.
-use Rattle.account.proofs.order.kind_falls.Goals as goal
-
-pub returns : goal.returns
-returns c = rw (c.kind.ensures.0, c.kind-2.ensures.0)

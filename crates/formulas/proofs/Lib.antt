@@ -2,6 +2,7 @@ pub mod AddedLaws
 pub mod AmountLaws
 pub mod BookLaws
 pub mod Calls
+pub mod ChunkLaws
 pub mod ContractLaws
 pub mod CreditLaws
 pub mod EarnedLaws

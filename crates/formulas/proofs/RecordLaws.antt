@@ -32,8 +32,8 @@ module _ {A : Type 0} (g : Record → A) (f : List ℕ) where
   pub start : (table : List A) → record_count f ≤ length table → Filled 0 table
   start table h = record { room = h; within = zero-le; so_far = refl }
 
-  pub next : (k : ℕ) (table : List A) (a : A) → Filled k table → k < record_count f → a ≡ g (record_at f k) → Filled (k + 1) (set table k a)
-  next k table a filled h e =
+  pub next : (k : ℕ) (table : List A) (a : A) (r : Record) → Filled k table → k < record_count f → get_or (records f) k [] ≡ r → a ≡ g r → Filled (k + 1) (set table k a)
+  next k table a r filled h is e =
       record {
         room = rw (length-set) filled.room;
         within = omega arith;
@@ -41,7 +41,7 @@ module _ {A : Type 0} (g : Record → A) (f : List ℕ) where
             ap (λ (n : ℕ). take n (set table k a)) (add-one k)
             ∙ take-suc-set table k a (omega (arith, filled.room))
             ∙ ap₂ (λ (xs : List A) (x : A). xs ++ (x ∷ [])) filled.so_far
-            (e ∙ ap g (sym (record_here f k h)) ∙ sym (get_d_map g (records f) k [] (g []) (rw (length_cut) h)))
+            (e ∙ ap g (sym is) ∙ sym (get_d_map g (records f) k [] (g []) (rw (length_cut) h)))
             ∙ sym (take-suc (map g (records f)) k (g []) (rw (length-map, length_cut) h))
             ∙ ap (λ (n : ℕ). take n (map g (records f))) (sym (add-one k));
       }

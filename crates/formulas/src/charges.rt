@@ -40,19 +40,10 @@ pub(crate) fn interprompt_charge(
     ensures { (result.0 ≡ interprompt_charge unit (records spreads.now)
         (interleaved (spreads_from first.now) (spreads_from second.now))) × (result.0 ≤ most_spreads * most_charge) }
 {
-    let count = spreads.len() / RECORD_BYTES;
-    let mut sum: u64 = 0;
-    let mut i = 0;
-    while i < count {
-        let at = i * RECORD_BYTES;
-        let charge = charge_of_spread(
-            unit,
-            &spreads[at..at + RECORD_BYTES],
-            Spreads(first[i]),
-            Spreads(second[i]),
-        );
+    let mut sum = 0;
+    for (i, s) in spreads.chunks_exact(RECORD_BYTES).enumerate() {
+        let charge = charge_of_spread(unit, s, Spreads(first[i]), Spreads(second[i]));
         sum += charge.0;
-        i += 1;
     }
     Amount(sum)
 }
@@ -81,19 +72,10 @@ pub(crate) fn prompt_charges(
     ensures { (result.0 ≡ prompt_charges unit (records prompts.now) used.now unused.now)
         × (result.0 ≤ most_prompts * most_charge) }
 {
-    let count = prompts.len() / RECORD_BYTES;
-    let mut sum: u64 = 0;
-    let mut i = 0;
-    while i < count {
-        let at = i * RECORD_BYTES;
-        let charge = charge_of_prompt(
-            unit,
-            &prompts[at..at + RECORD_BYTES],
-            Delta(used[i]),
-            Delta(unused[i]),
-        );
+    let mut sum = 0;
+    for (i, p) in prompts.chunks_exact(RECORD_BYTES).enumerate() {
+        let charge = charge_of_prompt(unit, p, Delta(used[i]), Delta(unused[i]));
         sum += charge.0;
-        i += 1;
     }
     Amount(sum)
 }
@@ -233,12 +215,8 @@ pub fn credits(
     ensures { EarnedBy (earner_at units.now prices.now nets.now) (records entries.now)
         (spreads_from first.now) (spreads_from second.now) result }
 {
-    let count = entries.len() / RECORD_BYTES;
-    let mut earned = [0u64; CONTRACTS];
-    let mut i = 0;
-    while i < count {
-        let at = i * RECORD_BYTES;
-        let e = &entries[at..at + RECORD_BYTES];
+    let mut earned = [0; CONTRACTS];
+    for (i, e) in entries.chunks_exact(RECORD_BYTES).enumerate() {
         add_credits(
             &mut earned,
             units,
@@ -248,7 +226,6 @@ pub fn credits(
             Spreads(first[i]),
             Spreads(second[i]),
         );
-        i += 1;
     }
     earned
 }

@@ -251,15 +251,14 @@ pub fn days_of(prompts: &[u8]) -> Days
     requires { record_count prompts.now ≤ most_prompts }
     ensures { DaysOf (records prompts.now) result }
 {
-    let count = prompts.len() / RECORD_BYTES;
-    let mut days = [LATEST; MOST_PROMPTS];
-    let mut j = 0;
-    while j < count {
-        let at = j * RECORD_BYTES;
-        days[j] = day_of(&prompts[at..at + RECORD_BYTES]);
-        j += 1;
+    let mut day = [LATEST; MOST_PROMPTS];
+    for (j, p) in prompts.chunks_exact(RECORD_BYTES).enumerate() {
+        day[j] = day_of(p);
     }
-    Days { count, day: days }
+    Days {
+        count: prompts.len() / RECORD_BYTES,
+        day,
+    }
 }
 
 // What no rows come to.
@@ -362,14 +361,9 @@ fn add_nets(nets: &mut [i64; MOST_PROMPTS], days: &[u32; MOST_PROMPTS], prompts:
         × (RowsFit (records rows.now) × AtMost prompt_places ((most_rows - length (records rows.now)) * most_row_delta) nets.old)) }
     ensures { Added prompts (λ j. net_on (records rows.now) (get_or days.now j 0)) nets.old nets.new }
 {
-    let count = rows.len() / RECORD_BYTES;
     let guess = guesses(days, prompts);
-    let mut i = 0;
-    while i < count {
-        let at = i * RECORD_BYTES;
-        let row = &rows[at..at + RECORD_BYTES];
+    for row in rows.chunks_exact(RECORD_BYTES) {
         add_delta(nets, days, &guess, prompts, day_of(row), row_delta(row));
-        i += 1;
     }
 }
 
@@ -382,17 +376,12 @@ fn add_totals(totals: &mut [i64; SCENARIOS], rates: Rates, unit: u64, rows: &[u8
         totals.old totals.new }
     ensures shorts { result ≡ short_lots (records rows.now) }
 {
-    let count = rows.len() / RECORD_BYTES;
-    let mut sums = [0i64; SCENARIOS];
+    let mut sums = [0; SCENARIOS];
     let mut sizes = 0;
     let mut shorts = 0;
-    let mut i = 0;
-    while i < count {
-        let at = i * RECORD_BYTES;
-        let row = &rows[at..at + RECORD_BYTES];
+    for row in rows.chunks_exact(RECORD_BYTES) {
         sizes = add_row(totals, &mut sums, sizes, rates, unit, row);
-        shorts = shorts + short_options(row);
-        i += 1;
+        shorts += short_options(row);
     }
     settle(totals, &sums, sizes);
     shorts
@@ -489,14 +478,9 @@ pub fn rows_net(rows: &[u8]) -> Delta
     requires { RowsFit (records rows.now) }
     ensures { Sized most_delta (rows_net (records rows.now)) result.0 }
 {
-    let count = rows.len() / RECORD_BYTES;
     let mut net = Delta(0);
-    let mut i = 0;
-    while i < count {
-        let at = i * RECORD_BYTES;
-        let more = net_with(net, &rows[at..at + RECORD_BYTES]);
-        net = more;
-        i += 1;
+    for row in rows.chunks_exact(RECORD_BYTES) {
+        net = net_with(net, row);
     }
     net
 }

@@ -1,44 +1,42 @@
-use mathlib.Core.Path.{refl, ◌∙◌, ap, subst}
-use Prim.Native.Nat.{◌+◌, ◌-◌, ◌*◌, ◌/◌, ◌<◌}
-use native.Mathlib.Omega.{arith}
-use lib.ListN.{length, take, drop}
-use lib.Seq.{take_all}
-use Rattle.record.specs.Bytes.{record_bytes}
+use Rattle.std.proofs.Common.{refl, ◌∙◌, ap, subst, arith, rules, length, length-append}
+use Rattle.std.proofs.lemmas.List.{take_all}
 use Rattle.record.specs.Layout.{Record}
 use Rattle.account.specs.Records.{records}
 use Rattle.formulas.specs.code.Position.{RowFit, rows_net}
-use Rattle.formulas.proofs.RecordLaws.{count_is, record_at_lem}
+use Rattle.formulas.proofs.ChunkLaws.{none_passed, turn, all_passed}
+use Rattle.formulas.proofs.RecordLaws.{count_is}
 use Rattle.formulas.proofs.WalkLaws.{rows_net_next, rows_net-room}
 use Rattle.formulas.proofs.rows.rows_net.Goals as goal
 
-pub loop-i-init : goal.loop-i-init
-loop-i-init c = (omega arith, refl)
+pub loop-row-init : goal.loop-row-init
+loop-row-init c = (none_passed c.args.rows.now c.into_iter-row-iterator.result (search rules) (search rules), refl)
 
-pub net_with-more-requires : goal.net_with-more-requires
-net_with-more-requires c =
-    let i = c.loop-i in
-    let file = c.args.rows.now in
-    let turn : i.i < length file / record_bytes = c.loop-i-test.true in (
-      subst (λ (row : Record). RowFit row) (record_at_lem file i.i turn) (c.requires.each i.i (omega (arith, count_is file))),
-      rows_net-room (records file) c.requires i.i i.net.0 i.invariant.1,
+pub net_with-net-requires : goal.net_with-net-requires
+net_with-net-requires c =
+    let i = c.loop-row in
+    let rows = c.args.rows.now in
+    let row = turn rows (length i.yielded) i.row-iterator i.invariant.0 c.next.new.self c.in-Some.row c.in-Some.ensures.steps in (
+      subst (λ (r : Record). RowFit r) row.is (c.requires.each (length i.yielded) (omega (arith, row.there, count_is rows))),
+      rows_net-room (records rows) c.requires (length i.yielded) i.net.0 i.invariant.1,
     )
 
-pub loop-i-preserved : goal.loop-i-preserved
-loop-i-preserved c =
-    let i = c.loop-i in
-    let file = c.args.rows.now in
-    let turn : i.i < length file / record_bytes = c.loop-i-test.true in
-    let row = take (i.i * record_bytes + record_bytes - i.i * record_bytes) (drop (i.i * record_bytes) file) in (
-      omega arith,
-      rows_net_next (records file) i.i i.net.0 c.net_with-more.result.0 row (omega (arith, count_is file)) (record_at_lem file i.i turn)
-          i.invariant.1 c.net_with-more.ensures,
+pub loop-row-preserved : goal.loop-row-preserved
+loop-row-preserved c =
+    let i = c.loop-row in
+    let rows = c.args.rows.now in
+    let row = turn rows (length i.yielded) i.row-iterator i.invariant.0 c.next.new.self c.in-Some.row c.in-Some.ensures.steps in
+    simp length-append (
+      row.passed,
+      rows_net_next (records rows) (length i.yielded) i.net.0 c.net_with-net.result.0 c.in-Some.row.now (omega (arith, row.there, count_is rows)) row.is
+          i.invariant.1 c.net_with-net.ensures,
     )
 
 pub returns : goal.returns
 returns c =
-    let i = c.loop-i in
+    let i = c.loop-row in
     let rows = records c.args.rows.now in
+    let all = all_passed c.args.rows.now (length i.yielded) i.row-iterator i.invariant.0 c.next.new.self c.in-None.ensures.steps in
     record {
-      is = i.invariant.1 ∙ ap rows_net (take_all i.i rows (omega (arith, count_is c.args.rows.now)));
-      size = rows_net-room rows c.requires i.i i.net.0 i.invariant.1;
+      is = i.invariant.1 ∙ ap rows_net (take_all (length i.yielded) rows (omega (arith, count_is c.args.rows.now, all)));
+      size = rows_net-room rows c.requires (length i.yielded) i.net.0 i.invariant.1;
     }

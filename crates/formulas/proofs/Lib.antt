@@ -13,6 +13,7 @@ pub mod PairLaws
 pub mod PlacedLaws
 pub mod PositionBounds
 pub mod PositionLaws
+pub mod ProductLaws
 pub mod RaisedLaws
 pub mod RecordLaws
 pub mod RiskLaws

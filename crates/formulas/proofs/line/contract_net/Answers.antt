@@ -11,7 +11,7 @@ use Rattle.formulas.proofs.line.contract_net.Goals as goal
 
 pub net_in-requires : goal.net_in-requires
 net_in-requires c =
-    (search rules, subst⁻¹ (λ (zs : List ℤ). sum (map nat_abs zs) ≤ most_delta) c.plain-numbers.ensures c.requires)
+    (search rules, subst⁻¹ (λ (zs : List ℤ). sum (map nat_abs zs) ≤ most_delta) c.plain.ensures c.requires)
 
 pub returns : goal.returns
-returns c = c.net_in.ensures ∙ ap sum_ℤ c.plain-numbers.ensures
+returns c = c.net_in.ensures ∙ ap sum_ℤ c.plain.ensures

@@ -7,4 +7,4 @@ use Rattle.formulas.proofs.ChunkLaws.{Passed}
 use Rattle.formulas.proofs.rows.rows_net.Given as goal
 
 abbrev pub invariant-loop-row : goal.invariant-loop-row
-invariant-loop-row l = Passed l.rows (length l.yielded) l.row-iterator × (l.net.0 ≡ rows_net (take (length l.yielded) (records l.rows)))
+invariant-loop-row l = Passed l.rows (length l.yielded) l.row-iterator × (l.net ≡ rows_net (take (length l.yielded) (records l.rows)))

@@ -14,19 +14,6 @@ use Rattle.formulas.proofs.AddedLaws.{put_fits, put_next}
 use Rattle.formulas.proofs.rows.add_own.Goals as goal
 use Rattle.formulas.proofs.rows.add_own.Goals.{After-product}
 
--- what the row loses for each tick, and in the scenario
-tick_is : (c : After-product) →
-    let row = c.args.row.now in
-    handed c.per_tick-each.result ≡ lots row *ℤ pos (value row)
-tick_is c =
-    let tick = c.per_tick-each in
-    back tick.result (record { sfits = tick.type_inv }) ∙ tick.ensures.is
-
-loss-is : (c : After-product) →
-    let row = c.args.row.now in
-    handed c.loss.result ≡ loss row (c.loop-s.s + 1)
-loss-is c = back c.loss.result (record { sfits = c.loss.type_inv }) ∙ c.loss.ensures
-
 -- what is added
 module _ (c : After-product) where
   abbrev more : ℕ → ℤ
@@ -35,11 +22,18 @@ module _ (c : After-product) where
   abbrev here : ℤ
   here = get_or c.args.totals.now c.loop-s.s (pos 0)
 
+  tick_is : handed c.per_tick-each.result ≡ lots c.args.row.now *ℤ pos (value c.args.row.now)
+  tick_is = back c.per_tick-each.result (record { sfits = c.per_tick-each.type_inv }) ∙ c.per_tick-each.ensures.is
+
+  loss-is : handed c.loss.result ≡ loss c.args.row.now (c.loop-s.s + 1)
+  loss-is = back c.loss.result (record { sfits = c.loss.type_inv }) ∙ c.loss.ensures
+
   multiplied : Sized most_product (more c.loop-s.s) c.product.result
-  multiplied = record {
-    is = c.product.ensures.is ∙ ap₂ (λ (x y : ℤ). half_away_to (x *ℤ y) c.args.unit) (tick_is c) (loss-is c);
-    size = c.product.ensures.size;
-  }
+  multiplied =
+      record {
+        is = c.product.ensures.is ∙ ap₂ (λ (x y : ℤ). half_away_to (x *ℤ y) c.args.unit) tick_is loss-is;
+        size = c.product.ensures.size;
+      }
 
   room : nat_abs here ≤ (most_rows - 1) * most_product
   room = c.requires.1.1.size c.loop-s.s (omega arith)

@@ -5,11 +5,11 @@ use native.Mathlib.Nat.{not-suc-le-zero, add-zero, zero-mul}
 use native.Mathlib.Decide.{ℕ_discrete}
 use native.Mathlib.Omega.{arith}
 use mathlib.Core.Path.{◌≡◌, refl, sym, ap, ap₂, ◌∙◌, subst, subst⁻¹}
-use mathlib.Core.Bool.{Bool, true, false, cond, ◌&&◌}
+use mathlib.Core.Bool.{Bool, true, false, cond}
 use mathlib.Core.List.{List, []}
 use mir.Syntax.{w64}
 use mir.Val.{Fits}
-use borrow.Author.Tests.{eq-eqb, eqb-true}
+use borrow.Author.Tests.{eq-eqb}
 use lib.Dec.{eqb}
 use lib.IntN.{nat_abs}
 use lib.ListN.{length, get_or, set, replicate, length-set}
@@ -17,7 +17,6 @@ use lib.Seq.{get_or-set_same, get_or-set_other}
 use Rattle.record.specs.Layout.{Record, contract, second_contract, percent, first_ratio, second_ratio, tenths}
 use Rattle.account.specs.Check.{most_contracts, most_entries}
 use Rattle.spread.specs.declared.Spreads.{Spreads}
-use Rattle.spread.proofs.Both.{and_left, and_right}
 use Rattle.spread.proofs.Filling.{get_d_same}
 use Rattle.formulas.specs.declared.amount.Amount.{Amount}
 use Rattle.formulas.specs.declared.charges.Earner.{Earner}
@@ -125,9 +124,9 @@ none_used c e = go (eqb c (contract e)) (eqb c (second_contract e))
     go false true = none (tenths e) (second_ratio e)
     go false false = refl
 
-pub none-formed : (units prices nets : List ℕ) (e : Record) (f s : ℕ) (before : List ℕ) → length before ≡ most_contracts → eqb f 0 && eqb s 0 ≡ true
+pub none-formed : (units prices nets : List ℕ) (e : Record) (f s : ℕ) (before : List ℕ) → length before ≡ most_contracts → f ≡ 0 → s ≡ 0
     → WithEntry (earner_at units prices nets) e f s before before
-none-formed units prices nets e f s before n h =
+none-formed units prices nets e f s before n hf hs =
     record {
       places = n;
       each = λ c l. sym (add-zero (get_or before c 0)) ∙ ap (λ (k : ℕ). get_or before c 0 + k) (nothing c);
@@ -137,7 +136,7 @@ none-formed units prices nets e f s before n h =
     nothing : (c : ℕ) → 0 ≡ earns_from (earner_at units prices nets c) e f s
     nothing c =
         nothing_used (get_or units c 0) (get_or prices c 0) _ (percent e) (get_or nets c 0)
-        (ap₂ (entry_use c e) (eqb-true f 0 (and_left (eqb f 0) (eqb s 0) h)) (eqb-true s 0 (and_right (eqb f 0) (eqb s 0) h)) ∙ none_used c e)
+        (ap₂ (entry_use c e) hf hs ∙ none_used c e)
 
 -- an entry adds to its two contracts, and nothing to any other
 module _ (units prices nets : List ℕ) (e : Record) (f s a b : ℕ) (fits : EntryFit e) (ea : a ≡ contract e) (eb : b ≡ second_contract e) where

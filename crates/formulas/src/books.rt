@@ -43,8 +43,9 @@ pub fn put_contract_book(
     let count = prompts.len() / RECORD_BYTES;
     let table = interprompt_table(spreads);
     if counted {
-        return put_counted(count, &tiers, nets, table, first, second, used, unused);
+        put_counted(count, &tiers, nets, table, first, second, used, unused)
+    } else {
+        put_book(count, &tiers, nets, table, first, second, used, unused);
+        0
     }
-    put_book(count, &tiers, nets, table, first, second, used, unused);
-    0
 }

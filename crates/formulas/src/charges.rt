@@ -106,12 +106,12 @@ fn entry_use(c: usize, e: &[u8], first: Spreads, second: Spreads) -> u64
     ensures { result ≡ entry_use c e.now first.0 second.0 }
 {
     if c == contract(e) {
-        return both_take(tenths(e), first_ratio(e), first, second);
+        both_take(tenths(e), first_ratio(e), first, second)
+    } else if c == second_contract(e) {
+        both_take(tenths(e), second_ratio(e), first, second)
+    } else {
+        0
     }
-    if c == second_contract(e) {
-        return both_take(tenths(e), second_ratio(e), first, second);
-    }
-    0
 }
 
 // A contract as the intercontract table sees it: its unit, its number, twice its price risk, and the size of its net delta.
@@ -164,16 +164,9 @@ fn credit_at(
         unit: units[c],
         contract: c,
         twice_price: prices[c],
-        net: net,
+        net,
     };
     credit_from(e, earner, first, second)
-}
-
-// Whether an entry formed nothing.
-fn formed_none(first: Spreads, second: Spreads) -> bool
-    ensures { result ≡ eqb first.0 0 && eqb second.0 0 }
-{
-    (first.0 == 0) & (second.0 == 0)
 }
 
 // One entry more in what the contracts earned, by their numbers: it adds to its two contracts alone, and nothing where it formed nothing.
@@ -190,7 +183,7 @@ fn add_credits(
     ensures { WithEntry (earner_at units.now prices.now nets.now) e.now first.0 second.0
         earned.old earned.new }
 {
-    if formed_none(first, second) {
+    if first.0 == 0 && second.0 == 0 {
         return;
     }
     let a = contract(e);

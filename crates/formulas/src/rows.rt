@@ -50,13 +50,13 @@ pub struct Days {
 const RAISE: u64 = 100_000;
 
 // How many numbers four bytes hold.
-const FOUR_BYTES: u64 = 4_294_967_296;
+const FOUR_BYTES: u64 = 1 << 32;
 
 // Four bytes in which every bit is 1.
-const ONES: u32 = 4_294_967_295;
+const ONES: u32 = u32::MAX;
 
 // Every day is as early, or earlier.
-const LATEST: u32 = 4_294_967_295;
+const LATEST: u32 = u32::MAX;
 
 // The last byte of a day has so many values.
 const GUESSES: usize = 256;
@@ -99,8 +99,11 @@ fn short(lots: i64) -> u64
 fn short_options(row: &[u8]) -> u64
     ensures { result ≡ short_options row.now }
 {
-    let lots_short = short(lots(row));
-    if row_type(row) == 0 { 0 } else { lots_short }
+    if row_type(row) == 0 {
+        0
+    } else {
+        short(lots(row))
+    }
 }
 
 // One row more in the margin currency, added to each total.
@@ -109,8 +112,8 @@ fn add_own(totals: &mut [i64; SCENARIOS], unit: u64, row: &[u8])
     ensures { Added scenario_count (own_products unit row.now) totals.old totals.new }
 {
     let each = per_tick(row);
-    for s in 0..SCENARIOS {
-        totals[s] += product(each, loss(row, s + 1), unit);
+    for (s, total) in totals.iter_mut().enumerate() {
+        *total += product(each, loss(row, s + 1), unit);
     }
 }
 
@@ -121,8 +124,8 @@ fn add_converted(totals: &mut [i64; SCENARIOS], f: Factors, unit: u64, row: &[u8
     ensures { Added scenario_count (converted_products f.raised f.lowered unit row.now) totals.old totals.new }
 {
     let each = per_tick(row);
-    for s in 0..SCENARIOS {
-        totals[s] += converted_product(f, each, loss(row, s + 1), unit);
+    for (s, total) in totals.iter_mut().enumerate() {
+        *total += converted_product(f, each, loss(row, s + 1), unit);
     }
 }
 
@@ -152,7 +155,7 @@ fn raise_of(each: i64) -> u64
 fn turned(bits: u32, turn: u32) -> u32
     ensures { result ≡ turned_bits bits turn }
 {
-    if ONES / 2 < turn { ONES - bits } else { bits }
+    if ONES / 2 < turn { !bits } else { bits }
 }
 
 // A loss with the sign of lots × value, whose turn and raise these are, raised so that it is no longer negative.
@@ -256,22 +259,6 @@ pub fn flat() -> Position
     }
 }
 
-// Where a day stands if they rise: by halves, how many are earlier.
-fn earlier(days: &[u32; MOST_PROMPTS], d: u32) -> usize
-    ensures { result ≤ most_prompts }
-{
-    let mut n = 0;
-    let mut half = MOST_PROMPTS / 2;
-    // A while: each round halves it.
-    while half != 0 {
-        if days[n + half - 1] < d {
-            n += half;
-        }
-        half /= 2;
-    }
-    n
-}
-
 // The first place of a day, and the number of days where there is none.
 fn first_place(days: &[u32; MOST_PROMPTS], count: usize, d: u32) -> usize
     requires { count ≤ most_prompts }
@@ -289,8 +276,8 @@ fn guesses(days: &[u32; MOST_PROMPTS], count: usize) -> [u8; GUESSES]
     ensures { Guessed count result }
 {
     let mut guess = [0; GUESSES];
-    for j in 0..count {
-        guess[(days[j] % 256) as usize] = j as u8;
+    for (j, day) in days[..count].iter().enumerate() {
+        guess[(*day % 256) as usize] = j as u8;
     }
     guess
 }
@@ -304,7 +291,7 @@ fn place_of(days: &[u32; MOST_PROMPTS], guess: &[u8; GUESSES], count: usize, d: 
     if days[guessed] == d {
         return guessed;
     }
-    let place = earlier(days, d);
+    let place = days.partition_point(|day| *day < d);
     if place < count && days[place] == d {
         return place;
     }

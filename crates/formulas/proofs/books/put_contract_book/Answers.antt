@@ -55,8 +55,8 @@ put_book-requires c =
       c.requires.1,
     )
 
-pub returns : goal.returns
-returns c =
+pub returns-else-counted : goal.returns-else-counted
+returns-else-counted c =
     let table = c.interprompt_table-table in record {
       book = lent_book c.args.prompts.now c.args.spreads.now _ c.args.nets.now table.result c.put_tiers.ensures
           table.ensures c.requires.0 _ c.put_book.ensures;

@@ -1,16 +1,15 @@
 -- An entry adds to its first contract, and to its second.
 -- Assumes nothing.
-use mathlib.Core.Path.{sym, ◌∙◌}
 use Prim.Native.Nat.{◌<◌}
 use native.Mathlib.Omega.{arith}
 use Rattle.account.specs.Check.{most_contracts}
 use Rattle.formulas.proofs.EarnedLaws.{none-formed, second_fits, with_entry}
 use Rattle.formulas.proofs.charges.add_credits.Goals as goal
 
-pub returns-then-formed_none : goal.returns-then-formed_none
-returns-then-formed_none c =
+pub returns-then-second-eq0 : goal.returns-then-second-eq0
+returns-then-second-eq0 c =
     none-formed c.args.units.now c.args.prices.now c.args.nets.now c.args.e.now c.args.first.0 c.args.second.0
-    c.args.earned.now c.requires.1.places (sym c.formed_none.ensures ∙ c.if-formed_none.true)
+    c.args.earned.now c.requires.1.places c.if-first-eq0.true c.if-second-eq0.true
 
 pub credit_at-to_first-requires : goal.credit_at-to_first-requires
 credit_at-to_first-requires c =

@@ -1,6 +1,6 @@
 -- The price risk, twice over: the difference of two sums of totals, or 0 if negative.
 -- Assumes nothing.
-use Rattle.std.proofs.Common.{◌≡◌, ◌∙◌, ap, subst, sym, arith, ℕ, ◌*◌, ◌^◌, ◌≤◌, ◌<◌, ℤ, nat_abs, ◌+ℤ◌, ◌-ℤ◌}
+use Rattle.std.proofs.Common.{◌≡◌, ◌∙◌, ap, subst, sym, arith, ℕ, ◌*◌, ◌≤◌, nat_abs, ◌+ℤ◌, ◌-ℤ◌}
 use Rattle.std.proofs.Math.Nat.{le_trans}
 use Rattle.exact.specs.Signed.{or_zero}
 use Rattle.exact.proofs.Integers.{abs_sub, or_zero_abs}

@@ -65,9 +65,9 @@ converted_product-requires c =
       ),
     )
 
-pub overflow_add-totals : goal.overflow_add-totals
-overflow_add-totals c =
-    let at = (goal.at.overflow_add-totals c).After-converted_product in
+pub overflow_add-total : goal.overflow_add-total
+overflow_add-total c =
+    let at = (goal.at.overflow_add-total c).After-converted_product in
     put_fits ◌+ℤ◌ c.loop-s.s (more at) c.args.totals.now c.loop-s.totals c.loop-s.invariant c.converted_product.result (more at c.loop-s.s) c.converted_product.type_inv
     (multiplied at).is (omega (arith, room at)) (small at)
 

@@ -41,9 +41,9 @@ module _ (c : After-product) where
   small : nat_abs (here +ℤ more c.loop-s.s) < 2 ^ 63
   small = omega (arith, abs_add here (more c.loop-s.s), room, ap nat_abs multiplied.is, multiplied.size)
 
-pub overflow_add-totals : goal.overflow_add-totals
-overflow_add-totals c =
-    let at = (goal.at.overflow_add-totals c).After-product in
+pub overflow_add-total : goal.overflow_add-total
+overflow_add-total c =
+    let at = (goal.at.overflow_add-total c).After-product in
     put_fits ◌+ℤ◌ c.loop-s.s (more at) c.args.totals.now c.loop-s.totals c.loop-s.invariant c.product.result (more at c.loop-s.s) c.product.type_inv
     (multiplied at).is (omega (arith, room at)) (small at)
 

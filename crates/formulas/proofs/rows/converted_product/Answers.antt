@@ -3,7 +3,7 @@
 use Rattle.std.proofs.Common.{◌≡◌, ◌∙◌, ap, subst, sym, ◌≤◌, ℤ, nat_abs, ◌*ℤ◌}
 use Rattle.exact.specs.Rounding.{half_away_to}
 use Rattle.exact.proofs.Integers.{back}
-use Rattle.account.specs.Products.{converted_at, most_conversion}
+use Rattle.account.specs.Products.{converted_at}
 use Rattle.formulas.specs.Bounds.{most_product}
 use Rattle.formulas.proofs.Calls.{handed}
 use Rattle.formulas.proofs.ProductLaws.{rounded_most, half_fits, product_fits, product_size, product_is}

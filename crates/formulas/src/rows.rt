@@ -95,15 +95,12 @@ fn short(lots: i64) -> u64
     if lots < 0 { magnitude(lots) } else { 0 }
 }
 
-// The short lots of a call or put, 0 of a forward.
+// The short lots of a call or put, 0 of a forward. The lots are read first, so that the test is no branch.
 fn short_options(row: &[u8]) -> u64
     ensures { result ≡ short_options row.now }
 {
-    if row_type(row) == 0 {
-        0
-    } else {
-        short(lots(row))
-    }
+    let lots_short = short(lots(row));
+    if row_type(row) == 0 { 0 } else { lots_short }
 }
 
 // One row more in the margin currency, added to each total.

@@ -6,18 +6,15 @@ use Rattle.spread.specs.code.Lent.{spreads_from}
 use Rattle.account.specs.Records.{records, record_count}
 use Rattle.formulas.proofs.LentLaws.{spread_from}
 use Rattle.formulas.proofs.RecordLaws.{below_records, length_cut}
-use Rattle.formulas.proofs.EarnedLaws.{walk_start, walk_next, walk_all}
-use Rattle.formulas.proofs.ChunkLaws.{NumberedTurn, none_numbered, numbered_turn, all_numbered}
+use Rattle.formulas.proofs.EarnedLaws.{walk_next, walk_all}
+use Rattle.formulas.proofs.ChunkLaws.{NumberedTurn, numbered_turn, all_numbered}
 use Rattle.formulas.proofs.charges.credits.Goals as goal
 use Rattle.formulas.proofs.charges.credits.Goals.{In-Some}
-use Rattle.std.proofs.Common.{rules, length-append}
+use Rattle.std.proofs.Common.{length-append}
 
 -- the entry of a turn
 entry : (c : In-Some) → NumberedTurn c.args.entries.now (length c.loop-i.yielded) c.in-Some.i c.in-Some.e.now c.next.new.self
 entry c = numbered_turn _ _ _ c.loop-i.invariant.0 _ c.in-Some.i c.in-Some.e c.in-Some.ensures.steps
-
-pub loop-i-init : goal.loop-i-init
-loop-i-init c = (none_numbered _ _ (search rules) (search rules) (search rules), walk_start _ _ _ _ _ _ _)
 
 pub bounds-first-i : goal.bounds-first-i
 bounds-first-i c =

@@ -9,11 +9,11 @@ use Rattle.account.specs.Records.{records, record_count}
 use Rattle.formulas.specs.code.Sums.{spreads_at, SpreadRoom}
 use Rattle.formulas.proofs.LentLaws.{spread_from}
 use Rattle.formulas.proofs.RecordLaws.{below_records, length_cut}
-use Rattle.formulas.proofs.SumLaws.{start, next, finish, charge_from, charge_step, charge_none}
-use Rattle.formulas.proofs.ChunkLaws.{NumberedTurn, none_numbered, numbered_turn, all_numbered}
+use Rattle.formulas.proofs.SumLaws.{next, finish, charge_from, charge_step, charge_none}
+use Rattle.formulas.proofs.ChunkLaws.{NumberedTurn, numbered_turn, all_numbered}
 use Rattle.formulas.proofs.charges.interprompt_charge.Goals as goal
 use Rattle.formulas.proofs.charges.interprompt_charge.Goals.{In-Some}
-use Rattle.std.proofs.Common.{rules, length, length-append, refl}
+use Rattle.std.proofs.Common.{length, length-append, refl}
 
 -- the room of a spread, by the lent numbers
 room-from : (unit : ℕ) (r : Record) (first second : List ℕ) (k : ℕ)
@@ -25,9 +25,6 @@ room-from unit r first second k h =
 -- the spread of a turn
 spread : (c : In-Some) → NumberedTurn c.args.spreads.now (length c.loop-i.yielded) c.in-Some.i c.in-Some.s.now c.next.new.self
 spread c = numbered_turn _ _ _ c.loop-i.invariant.0 _ c.in-Some.i c.in-Some.s c.in-Some.ensures.steps
-
-pub loop-i-init : goal.loop-i-init
-loop-i-init c = (none_numbered _ _ (search rules) (search rules) (search rules), start _ _ _)
 
 pub bounds-first-i : goal.bounds-first-i
 bounds-first-i c =

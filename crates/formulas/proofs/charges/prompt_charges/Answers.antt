@@ -8,11 +8,11 @@ use Rattle.formulas.specs.code.Sums.{PromptRoom}
 use Rattle.exact.proofs.Integers.{back, sfits_abs}
 use Rattle.formulas.proofs.Calls.{handed}
 use Rattle.formulas.proofs.RecordLaws.{below_records, length_cut}
-use Rattle.formulas.proofs.SumLaws.{start, next, finish, prompt_from, prompt_step, prompt_none}
-use Rattle.formulas.proofs.ChunkLaws.{NumberedTurn, none_numbered, numbered_turn, all_numbered}
+use Rattle.formulas.proofs.SumLaws.{next, finish, prompt_from, prompt_step, prompt_none}
+use Rattle.formulas.proofs.ChunkLaws.{NumberedTurn, numbered_turn, all_numbered}
 use Rattle.formulas.proofs.charges.prompt_charges.Goals as goal
 use Rattle.formulas.proofs.charges.prompt_charges.Goals.{In-Some}
-use Rattle.std.proofs.Common.{rules, length, length-append, refl}
+use Rattle.std.proofs.Common.{length, length-append, refl}
 
 -- the numbers read are those of the prompt
 used-read : {unit : ℕ} {r : Record} {used unused : ℤ} → PromptRoom unit r used unused → handed used ≡ used
@@ -28,9 +28,6 @@ room-handed unit r used unused h =
 -- the prompt of a turn
 prompt : (c : In-Some) → NumberedTurn c.args.prompts.now (length c.loop-i.yielded) c.in-Some.i c.in-Some.p.now c.next.new.self
 prompt c = numbered_turn _ _ _ c.loop-i.invariant.0 _ c.in-Some.i c.in-Some.p c.in-Some.ensures.steps
-
-pub loop-i-init : goal.loop-i-init
-loop-i-init c = (none_numbered _ _ (search rules) (search rules) (search rules), start _ _ _)
 
 pub bounds-used-i : goal.bounds-used-i
 bounds-used-i c =

@@ -3,7 +3,6 @@
 use Prim.Native.Nat.{ℕ, ◌≤◌}
 use mathlib.Core.Path.{◌≡◌, ◌∙◌, sym, ap, subst, subst⁻¹}
 use mathlib.Core.List.{List, map}
-use native.Mathlib.Omega.{arith}
 use lib.IntN.{ℤ, nat_abs}
 use lib.ListN.{length}
 use Rattle.exact.specs.Lists.{sum, sum_ℤ}
@@ -16,7 +15,7 @@ use Rattle.formulas.specs.Deltas.{opens_with, interprompt}
 use Rattle.formulas.specs.code.Position.{position_in}
 use Rattle.formulas.specs.code.Promised.{BookOf, Charged}
 use Rattle.formulas.specs.code.Sums.{deltas_in, SpreadsWithin, PromptsWithin}
-use Rattle.formulas.proofs.ContractLaws.{totals-room, net_sizes, spreads_room, prompts_room, line_is, line_with}
+use Rattle.formulas.proofs.ContractLaws.{net_sizes, spreads_room, prompts_room, line_is, line_with}
 use Rattle.spread.proofs.Lent.{deltas_again}
 use Rattle.formulas.proofs.line.line_in.Goals as goal
 use Rattle.formulas.proofs.line.line_in.Goals.{Start}
@@ -30,11 +29,6 @@ book_is c =
     let a = c.args in
     subst⁻¹ (λ (zs : List ℤ). BookOf (steps (map interprompt (records a.spreads.now))) (opens_with (records a.prompts.now) zs)
     (book_in a.first.now a.second.now a.used.now a.unused.now)) (deltas_again a.nets.now) c.requires.1
-
-pub scanned-risks-requires : goal.scanned-risks-requires
-scanned-risks-requires c =
-    let w = c.requires.0 in
-    totals-room w.rates c.args.own.now (records c.args.prompts.now) w.rows (records c.args.spreads.now) w.fit _ w.is w.most
 
 pub interprompt_charge-requires : goal.interprompt_charge-requires
 interprompt_charge-requires c =
@@ -51,11 +45,6 @@ prompt_charges-requires c =
     subst⁻¹ (λ (n : ℕ). PromptsWithin n prompts c.args.used.now c.args.unused.now) c.unit-unit.ensures.0
     (prompts_room w.rates c.args.own.now prompts w.rows (records c.args.spreads.now) w.fit _ w.is w.most c.args.first.now c.args.second.now
     c.args.used.now c.args.unused.now (book_is (goal.at.prompt_charges-requires c).Start))
-
-pub short_option_minimum-requires : goal.short_option_minimum-requires
-short_option_minimum-requires c =
-    let w = c.requires.0 in
-    (omega (arith, w.most.shorts_most), omega (arith, w.fit.rate, c.short_option_rate.ensures.0))
 
 pub net_in-requires : goal.net_in-requires
 net_in-requires c =

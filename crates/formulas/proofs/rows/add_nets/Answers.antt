@@ -1,5 +1,5 @@
-use mathlib.Core.Path.{refl, subst}
-use mathlib.Core.List.{List, []}
+use mathlib.Core.Path.{subst}
+use mathlib.Core.List.{List}
 use Prim.Native.Nat.{ℕ}
 use native.Mathlib.Omega.{arith}
 use lib.IntN.{ℤ}
@@ -12,13 +12,12 @@ use Rattle.account.specs.Check.{most_rows}
 use Rattle.formulas.specs.Bounds.{most_delta}
 use Rattle.formulas.specs.Deltas.{row_delta}
 use Rattle.formulas.specs.code.Position.{RowFit, AtMost, Added, adds_on, net_on}
-use Rattle.formulas.proofs.AddedLaws.{nothing-added}
 use Rattle.formulas.proofs.RecordLaws.{count_is}
 use Rattle.formulas.proofs.WalkLaws.{nets_next, nets_room}
 use Rattle.formulas.proofs.rows.add_nets.Goals as goal
 use Rattle.formulas.proofs.rows.add_nets.Goals.{In-Some}
-use Rattle.std.proofs.Common.{rules, length-append}
-use Rattle.formulas.proofs.ChunkLaws.{Turn, none_passed, turn, all_passed}
+use Rattle.std.proofs.Common.{length-append}
+use Rattle.formulas.proofs.ChunkLaws.{Turn, turn, all_passed}
 
 -- the row of a turn is within its ranges, and there is room for it
 row : (c : In-Some) → Turn c.args.rows.now (length c.loop-row.yielded) c.in-Some.row.now c.next.new.self
@@ -30,15 +29,6 @@ has_room c =
     let at = row c in
     nets_room rows c.args.prompts c.args.days.now c.args.nets.now c.requires.1.1.0 c.requires.1.1.1 (length c.loop-row.yielded) most_rows
     c.loop-row.nets c.loop-row.invariant.1 (omega (arith, count_is c.args.rows.now, at.there, c.requires.1.1.0.few))
-
-pub guesses-guess-requires : goal.guesses-guess-requires
-guesses-guess-requires c = c.requires.0
-
-pub loop-row-init : goal.loop-row-init
-loop-row-init c = (
-  none_passed _ _ (search rules) (search rules),
-  nothing-added c.args.prompts (λ j. net_on [] (get_or c.args.days.now j 0)) c.args.nets.now (λ j. refl),
-)
 
 pub row_delta-requires : goal.row_delta-requires
 row_delta-requires c =

@@ -1,7 +1,6 @@
-use mathlib.Core.Path.{◌≡◌, refl, sym, ◌∙◌, ap}
+use mathlib.Core.Path.{◌≡◌, sym, ◌∙◌, ap}
 use mathlib.Core.List.{List, []}
 use Prim.Native.Nat.{ℕ, ◌+◌, ◌<◌}
-use native.Mathlib.Nat.{not-suc-le-zero}
 use native.Mathlib.Omega.{arith}
 use lib.ListN.{get_or, set, length-set}
 use lib.Seq.{get_or-set_same, get_or-set_other}
@@ -11,9 +10,9 @@ use Rattle.record.specs.Layout.{Record, day}
 use Rattle.account.specs.Records.{records}
 use Rattle.formulas.proofs.RecordLaws.{count_is}
 use Rattle.formulas.proofs.rows.days_of.Invariants.{Noted}
-use Rattle.formulas.proofs.ChunkLaws.{none_numbered, numbered_turn, all_numbered}
+use Rattle.formulas.proofs.ChunkLaws.{numbered_turn, all_numbered}
 use Rattle.formulas.proofs.rows.days_of.Goals as goal
-use Rattle.std.proofs.Common.{rules, subst, length, length-append}
+use Rattle.std.proofs.Common.{subst, length, length-append}
 
 next : (prompts : List Record) (days : List ℕ) (j d : ℕ) → j < prompt_places → d ≡ day (get_or prompts j []) → Noted prompts days j
     → Noted prompts (set days j d) (j + 1)
@@ -25,18 +24,6 @@ next prompts days j d h e n =
           (λ k l. get_or-set_other days j k d 0 (λ q. omega arith) ∙ n.noted k l)
           (get_or-set_same days j d 0 (omega (arith, n.as_many)) ∙ e);
     }
-
-pub loop-j-init : goal.loop-j-init
-loop-j-init c = (
-  none_numbered _ _ (search rules) (search rules) (search rules),
-  record { as_many = refl; noted = λ k h. absurd (not-suc-le-zero h) },
-)
-
-pub bounds-day-j : goal.bounds-day-j
-bounds-day-j c =
-    let l = c.loop-j in
-    let p = numbered_turn _ _ _ l.invariant.0 c.next.new.self c.in-Some.j c.in-Some.p c.in-Some.ensures.steps in
-    omega (arith, c.requires)
 
 pub loop-j-preserved : goal.loop-j-preserved
 loop-j-preserved c =

@@ -1,9 +1,9 @@
-use Rattle.std.proofs.Common.{rules, refl, ◌∙◌, ap, subst, arith, length, length-append}
+use Rattle.std.proofs.Common.{◌∙◌, ap, subst, arith, length, length-append}
 use Rattle.std.proofs.lemmas.List.{take_all}
 use Rattle.record.specs.Layout.{Record}
 use Rattle.account.specs.Records.{records}
 use Rattle.formulas.specs.code.Position.{RowFit, rows_net}
-use Rattle.formulas.proofs.ChunkLaws.{Turn, none_passed, turn, all_passed}
+use Rattle.formulas.proofs.ChunkLaws.{Turn, turn, all_passed}
 use Rattle.formulas.proofs.RecordLaws.{count_is}
 use Rattle.formulas.proofs.WalkLaws.{rows_net_next, rows_net-room}
 use Rattle.std.proofs.Common.{◌≡◌, ◌≤◌, ℤ, nat_abs, ◌+ℤ◌, SFits, w64}
@@ -17,9 +17,6 @@ use Rattle.formulas.proofs.rows.rows_net.Goals.{In-Some}
 -- the row of a turn
 row : (c : In-Some) → Turn c.args.rows.now (length c.loop-row.yielded) c.in-Some.row.now c.next.new.self
 row c = turn _ _ _ c.loop-row.invariant.0 _ c.in-Some.row c.in-Some.ensures.steps
-
-pub loop-row-init : goal.loop-row-init
-loop-row-init c = (none_passed _ _ (search rules) (search rules), refl)
 
 pub row_delta-net-requires : goal.row_delta-net-requires
 row_delta-net-requires c =

@@ -6,7 +6,7 @@ use Rattle.account.specs.Check.{most_rows}
 use Rattle.formulas.specs.Bounds.{most_product}
 use Rattle.formulas.specs.code.Position.{Added}
 use Rattle.formulas.specs.code.Raised.{unraised_at, most_raised}
-use Rattle.formulas.proofs.AddedLaws.{put_fits, put_next}
+use Rattle.formulas.proofs.AddedLaws.{put_next}
 use Rattle.formulas.proofs.RaisedLaws.{settled_is}
 use Rattle.formulas.proofs.rows.settle.Goals as goal
 use Rattle.formulas.proofs.rows.settle.Goals.{After-unraised}
@@ -31,12 +31,6 @@ module _ (c : After-unraised) where
 
   small : nat_abs (here +ℤ more c.loop-s.s) < 2 ^ 63
   small = omega (arith, abs_add here (more c.loop-s.s), room, ap nat_abs more_is.is, more_is.size)
-
-pub overflow_add-totals : goal.overflow_add-totals
-overflow_add-totals c =
-    let at = (goal.at.overflow_add-totals c).After-unraised in
-    put_fits ◌+ℤ◌ c.loop-s.s (more at) c.args.totals.now c.loop-s.totals c.loop-s.invariant c.unraised.result (more at c.loop-s.s) c.unraised.type_inv
-    (more_is at).is (omega (arith, room at)) (small at)
 
 pub loop-s-preserved : goal.loop-s-preserved
 loop-s-preserved c =

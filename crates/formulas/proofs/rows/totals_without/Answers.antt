@@ -2,7 +2,7 @@ use Rattle.std.proofs.Common.{refl, arith, ℕ, ◌*◌, ◌^◌, ◌≤◌, ◌
 use Rattle.account.specs.Check.{most_rows}
 use Rattle.exact.proofs.Integers.{sfits_abs, abs_sub}
 use Rattle.formulas.specs.Bounds.{most_product}
-use Rattle.formulas.proofs.AddedLaws.{put_fits, put_next}
+use Rattle.formulas.proofs.AddedLaws.{put_next}
 use Rattle.formulas.proofs.rows.totals_without.Goals as goal
 use Rattle.formulas.proofs.rows.totals_without.Goals.{In-loop-s}
 
@@ -28,12 +28,6 @@ module _ (c : In-loop-s) where
 
   gone-fits : SFits w64 gone
   gone-fits = sfits_abs gone (omega (arith, gone-most))
-
-pub overflow_sub-totals : goal.overflow_sub-totals
-overflow_sub-totals c =
-    let at = (goal.at.overflow_sub-totals c).In-loop-s in
-    put_fits ◌-ℤ◌ c.loop-s.s (more at) c.args.totals.0 c.loop-s.totals.0 c.loop-s.invariant (gone at) (gone at) (gone-fits at).sfits refl
-    (omega (arith, here-most at)) (small at)
 
 pub loop-s-preserved : goal.loop-s-preserved
 loop-s-preserved c =

@@ -1,10 +1,7 @@
-use Rattle.std.proofs.Common.{◌∙◌, ap, refl, sym, subst, ℕ, ◌+◌, arith, rules, take, set, length, length-append, length-set}
-use Rattle.formulas.proofs.ChunkLaws.{none_numbered, numbered_turn, all_numbered}
-use Rattle.formulas.proofs.RecordLaws.{Filled, start, next, finish}
+use Rattle.std.proofs.Common.{◌∙◌, ap, sym, subst, ℕ, ◌+◌, arith, take, set, length, length-append, length-set}
+use Rattle.formulas.proofs.ChunkLaws.{numbered_turn, all_numbered}
+use Rattle.formulas.proofs.RecordLaws.{Filled, next, finish}
 use Rattle.formulas.proofs.tables.table_of.Goals as goal
-
-pub loop-i-init : goal.loop-i-init
-loop-i-init g c = (none_numbered _ _ (search rules) (search rules) (search rules), refl, refl, λ made is. start made c.args.file.now _ c.requires.room)
 
 pub loop-i-preserved : goal.loop-i-preserved
 loop-i-preserved g c =

@@ -12,12 +12,12 @@ use lib.ListN.{length, get_or, set, length-set, length-map}
 use lib.Seq.{ext_get_or, get_or-set_same, get_or-set_other}
 use borrow.Author.Count.{below_more}
 use borrow.Author.Tests.{ltb-true, ltb-false}
-use Rattle.spread.specs.declared.Delta.{Delta}
-use Rattle.spread.proofs.Lent.{delta_at_lem}
-use Rattle.formulas.specs.code.Position.{AtMost, Added, deltas_in}
 use lib.Signed.{mag}
 use mir.Syntax.{w64}
 use mir.Val.{SFits}
+use Rattle.spread.specs.declared.Delta.{Delta}
+use Rattle.spread.proofs.Lent.{delta_at_lem}
+use Rattle.formulas.specs.code.Position.{AtMost, Added, deltas_in}
 use Rattle.exact.proofs.Integers.{sfits_abs}
 use Rattle.formulas.proofs.Calls.{handed, op_fits, op_is}
 use Rattle.formulas.proofs.SignedCalls.{abs_plus}

@@ -3,8 +3,7 @@
 use mathlib.Core.Path.{◌≡◌, refl, sym, ap, ◌∙◌}
 use mathlib.Core.Bool.{Bool, true, false, cond}
 use Prim.Native.Nat.{ℕ, ◌+◌, ◌*◌, ◌/◌, ◌%◌, ◌≤◌, ◌<◌}
-use native.Mathlib.Nat.{mul-le-mul, mul-le-mul_left, mul_assoc, mul_right_comm, mul_left_comm, add-mul, zero-mul, div-add-mod', div-mul-le_self, mod-lt}
-use native.Mathlib.Nat.{le-mul_of_pos_right}
+use native.Mathlib.Nat.{mul-le-mul, mul-le-mul_left, mul_assoc, mul_right_comm, mul_left_comm, add-mul, zero-mul, div-add-mod', div-mul-le_self, mod-lt, le-mul_of_pos_right}
 use native.Mathlib.Omega.{arith}
 use lib.Dec.{eqb}
 use borrow.Author.Tests.{eqb-true}

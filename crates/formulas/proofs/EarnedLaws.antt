@@ -24,8 +24,7 @@ use Rattle.formulas.specs.Bounds.{most_credit, most_credits}
 use Rattle.formulas.specs.Credit.{both_take, entry_use, credits_by}
 use Rattle.formulas.specs.code.Lines.{no_line}
 use Rattle.formulas.specs.code.Sums.{interleaved, spreads_at, EntriesRoom}
-use Rattle.formulas.specs.code.Table.{earns, EarnerOf, earner_at, LinesRise, Listed, EarnersOf, earns_from, WithEntry, WalkRoom, EarnedBy, ByLine}
-use Rattle.formulas.specs.code.Table.{CreditsRoom, CreditsOf}
+use Rattle.formulas.specs.code.Table.{earns, EarnerOf, earner_at, LinesRise, Listed, EarnersOf, earns_from, WithEntry, WalkRoom, EarnedBy, ByLine, CreditsRoom, CreditsOf}
 use Rattle.formulas.specs.code.Within.{EntryFit, EntriesFit}
 use Rattle.formulas.proofs.SumLaws.{ToGo, next, finish, credit_from, credit_step, credit-none, use_none, nothing_used}
 

@@ -10,11 +10,11 @@ use mathlib.Core.List.{List, []}
 use lib.IntN.{ℤ, pos}
 use lib.ListN.{length, get_or, drop, drop_of_length-le}
 use lib.Seq.{drop-cons}
+use lib.Dec.{eqb}
+use borrow.Author.Tests.{ne_eqb}
 use Rattle.exact.specs.Rounding.{half_up_to}
 use Rattle.exact.proofs.UnitLaws.{up_none}
-use lib.Dec.{eqb}
 use Rattle.record.specs.Layout.{Record, contract, second_contract, rate_per_spread, spread_rate_of, outright_rate_of, percent}
-use borrow.Author.Tests.{ne_eqb}
 use Rattle.spread.specs.declared.Spreads.{Spreads}
 use Rattle.formulas.specs.Charges.{spread_charge, interprompt_charge, prompt_charge, prompt_charges}
 use Rattle.formulas.specs.Credit.{from_unit, unit_price_risk, credit_at, credit, entry_use, credits_by}

@@ -1,6 +1,7 @@
 use mathlib.Core.Path.{◌≡◌, sym, ◌∙◌}
 use native.Mathlib.Omega.{arith}
 use lib.ListN.{length, length-map}
+use Rattle.std.proofs.Common.{length-append}
 use Rattle.spread.specs.Accepted.{spread_places}
 use Rattle.spread.specs.code.Lent.{spreads_from}
 use Rattle.account.specs.Records.{records, record_count}
@@ -10,7 +11,6 @@ use Rattle.formulas.proofs.EarnedLaws.{walk_next, walk_all}
 use Rattle.formulas.proofs.ChunkLaws.{NumberedTurn, numbered_turn, all_numbered}
 use Rattle.formulas.proofs.charges.credits.Goals as goal
 use Rattle.formulas.proofs.charges.credits.Goals.{In-Some}
-use Rattle.std.proofs.Common.{length-append}
 
 -- the entry of a turn
 entry : (c : In-Some) → NumberedTurn c.args.entries.now (length c.loop-i.yielded) c.in-Some.i c.in-Some.e.now c.next.new.self

@@ -3,6 +3,7 @@ use mathlib.Core.List.{List}
 use Prim.Native.Nat.{ℕ, ◌+◌}
 use native.Mathlib.Omega.{arith}
 use lib.ListN.{get_or}
+use Rattle.std.proofs.Common.{length, length-append, refl}
 use Rattle.spread.specs.code.Lent.{spreads_from}
 use Rattle.record.specs.Layout.{Record}
 use Rattle.account.specs.Records.{records, record_count}
@@ -13,7 +14,6 @@ use Rattle.formulas.proofs.SumLaws.{next, finish, charge_from, charge_step, char
 use Rattle.formulas.proofs.ChunkLaws.{NumberedTurn, numbered_turn, all_numbered}
 use Rattle.formulas.proofs.charges.interprompt_charge.Goals as goal
 use Rattle.formulas.proofs.charges.interprompt_charge.Goals.{In-Some}
-use Rattle.std.proofs.Common.{length, length-append, refl}
 
 -- the room of a spread, by the lent numbers
 room-from : (unit : ℕ) (r : Record) (first second : List ℕ) (k : ℕ)

@@ -1,9 +1,10 @@
 use mathlib.Core.Path.{◌≡◌, ◌∙◌, sym, ap, subst⁻¹}
 use Prim.Native.Nat.{ℕ, ◌+◌}
 use native.Mathlib.Omega.{arith}
+use lib.IntN.{ℤ}
+use Rattle.std.proofs.Common.{length, length-append, refl}
 use Rattle.record.specs.Layout.{Record}
 use Rattle.account.specs.Records.{records, record_count}
-use lib.IntN.{ℤ}
 use Rattle.formulas.specs.code.Sums.{PromptRoom}
 use Rattle.exact.proofs.Integers.{back, sfits_abs}
 use Rattle.formulas.proofs.Calls.{handed}
@@ -12,7 +13,6 @@ use Rattle.formulas.proofs.SumLaws.{next, finish, prompt_from, prompt_step, prom
 use Rattle.formulas.proofs.ChunkLaws.{NumberedTurn, numbered_turn, all_numbered}
 use Rattle.formulas.proofs.charges.prompt_charges.Goals as goal
 use Rattle.formulas.proofs.charges.prompt_charges.Goals.{In-Some}
-use Rattle.std.proofs.Common.{length, length-append, refl}
 
 -- the numbers read are those of the prompt
 used-read : {unit : ℕ} {r : Record} {used unused : ℤ} → PromptRoom unit r used unused → handed used ≡ used

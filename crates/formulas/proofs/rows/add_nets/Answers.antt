@@ -5,6 +5,7 @@ use native.Mathlib.Omega.{arith}
 use lib.IntN.{ℤ}
 use lib.ListN.{length, get_or}
 use lib.Seq.{take_all}
+use Rattle.std.proofs.Common.{length-append}
 use Rattle.spread.specs.Accepted.{prompt_places}
 use Rattle.record.specs.Layout.{Record}
 use Rattle.account.specs.Records.{records}
@@ -14,10 +15,9 @@ use Rattle.formulas.specs.Deltas.{row_delta}
 use Rattle.formulas.specs.code.Position.{RowFit, AtMost, Added, adds_on, net_on}
 use Rattle.formulas.proofs.RecordLaws.{count_is}
 use Rattle.formulas.proofs.WalkLaws.{nets_next, nets_room}
+use Rattle.formulas.proofs.ChunkLaws.{Turn, turn, all_passed}
 use Rattle.formulas.proofs.rows.add_nets.Goals as goal
 use Rattle.formulas.proofs.rows.add_nets.Goals.{In-Some}
-use Rattle.std.proofs.Common.{length-append}
-use Rattle.formulas.proofs.ChunkLaws.{Turn, turn, all_passed}
 
 -- the row of a turn is within its ranges, and there is room for it
 row : (c : In-Some) → Turn c.args.rows.now (length c.loop-row.yielded) c.in-Some.row.now c.next.new.self

@@ -1,6 +1,6 @@
+use lib.ListN.{get_or-replicate}
 use Rattle.std.proofs.Common.{◌≡◌, refl, ◌∙◌, ap, ap₂, arith, ℕ, ◌+◌, ◌-◌, ◌*◌, ◌^◌, ◌%◌, ◌≤◌, ◌<◌, ℤ, pos, nat_abs, ◌+ℤ◌, get_or}
 use Rattle.std.proofs.Math.Nat.{mul-le-mul}
-use lib.ListN.{get_or-replicate}
 use Rattle.exact.proofs.Integers.{back, abs_add}
 use Rattle.record.specs.Layout.{loss, scenario_count}
 use Rattle.account.specs.Check.{most_rows}

@@ -4,6 +4,7 @@ use Prim.Native.Nat.{ℕ, zero, suc, ◌+◌, ◌-◌, ◌*◌, ◌<◌, ◌≤�
 use native.Mathlib.Omega.{arith}
 use lib.IntN.{ℤ}
 use lib.ListN.{length, get_or}
+use Rattle.std.proofs.Common.{rules, length-append}
 use Rattle.record.specs.Layout.{Record, scenario_count, hundred_thousand}
 use Rattle.account.specs.code.Rates.{RatesOf}
 use Rattle.account.specs.Records.{records}
@@ -16,10 +17,9 @@ use Rattle.formulas.proofs.RaisedLaws.{none-settled, none-room, wider_room}
 use Rattle.formulas.proofs.RecordLaws.{count_is}
 use Rattle.formulas.proofs.PositionBounds.{shorts_most}
 use Rattle.formulas.proofs.WalkLaws.{SoFar, start, next, shorts_room, finish}
+use Rattle.formulas.proofs.ChunkLaws.{Turn, none_passed, turn, all_passed}
 use Rattle.formulas.proofs.rows.add_totals.Goals as goal
 use Rattle.formulas.proofs.rows.add_totals.Goals.{In-Some, In-None}
-use Rattle.std.proofs.Common.{rules, length-append}
-use Rattle.formulas.proofs.ChunkLaws.{Turn, none_passed, turn, all_passed}
 
 -- the one row of a list
 one-rated : (t : Rates) (rates : List Record) (row : Record) → RatesOf rates t → RowRated rates row → RatedBy t (row ∷ [])

@@ -5,6 +5,7 @@ use native.Mathlib.Omega.{arith}
 use lib.ListN.{get_or, set, length-set}
 use lib.Seq.{get_or-set_same, get_or-set_other}
 use borrow.Author.Count.{below_more}
+use Rattle.std.proofs.Common.{subst, length, length-append}
 use Rattle.spread.specs.Accepted.{prompt_places}
 use Rattle.record.specs.Layout.{Record, day}
 use Rattle.account.specs.Records.{records}
@@ -12,7 +13,6 @@ use Rattle.formulas.proofs.RecordLaws.{count_is}
 use Rattle.formulas.proofs.rows.days_of.Invariants.{Noted}
 use Rattle.formulas.proofs.ChunkLaws.{numbered_turn, all_numbered}
 use Rattle.formulas.proofs.rows.days_of.Goals as goal
-use Rattle.std.proofs.Common.{subst, length, length-append}
 
 next : (prompts : List Record) (days : List ℕ) (j d : ℕ) → j < prompt_places → d ≡ day (get_or prompts j []) → Noted prompts days j
     → Noted prompts (set days j d) (j + 1)

@@ -1,15 +1,13 @@
-use Rattle.std.proofs.Common.{◌∙◌, ap, subst, arith, length, length-append}
+use Rattle.std.proofs.Common.{◌∙◌, ap, subst, arith, length, length-append, ◌≡◌, ◌≤◌, ℤ, nat_abs, ◌+ℤ◌, SFits, w64}
 use Rattle.std.proofs.lemmas.List.{take_all}
 use Rattle.record.specs.Layout.{Record}
 use Rattle.account.specs.Records.{records}
-use Rattle.formulas.specs.code.Position.{RowFit, rows_net}
+use Rattle.formulas.specs.code.Position.{RowFit, rows_net, Sized}
 use Rattle.formulas.proofs.ChunkLaws.{Turn, turn, all_passed}
 use Rattle.formulas.proofs.RecordLaws.{count_is}
 use Rattle.formulas.proofs.WalkLaws.{rows_net_next, rows_net-room}
-use Rattle.std.proofs.Common.{◌≡◌, ◌≤◌, ℤ, nat_abs, ◌+ℤ◌, SFits, w64}
 use Rattle.exact.proofs.Integers.{back, sfits_abs, abs_add}
 use Rattle.formulas.specs.Bounds.{most_delta, most_row_delta}
-use Rattle.formulas.specs.code.Position.{Sized}
 use Rattle.formulas.proofs.Calls.{handed}
 use Rattle.formulas.proofs.rows.rows_net.Goals as goal
 use Rattle.formulas.proofs.rows.rows_net.Goals.{In-Some}

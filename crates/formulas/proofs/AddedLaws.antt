@@ -3,8 +3,8 @@
 use mathlib.Core.Path.{◌≡◌, refl, sym, ◌∙◌, ap, subst}
 use mathlib.Core.Bool.{Bool, true, false}
 use mathlib.Core.List.{List}
-use Prim.Native.Nat.{ℕ, ◌+◌, ◌≤◌, ◌<◌}
-use native.Mathlib.Nat.{not-suc-le-zero, le_trans}
+use Prim.Native.Nat.{ℕ, ◌+◌, ◌^◌, ◌≤◌, ◌<◌}
+use native.Mathlib.Nat.{not-suc-le-zero, le_trans, le_refl}
 use native.Mathlib.Omega.{arith}
 use lib.Dec.{ltb}
 use lib.IntN.{ℤ, pos, nat_abs, ◌+ℤ◌, +ℤ_idr, +ℤ_assoc}
@@ -12,9 +12,14 @@ use lib.ListN.{length, get_or, set, length-set, length-map}
 use lib.Seq.{ext_get_or, get_or-set_same, get_or-set_other}
 use borrow.Author.Count.{below_more}
 use borrow.Author.Tests.{ltb-true, ltb-false}
+use lib.Signed.{mag}
+use mir.Syntax.{w64}
+use mir.Val.{SFits}
 use Rattle.spread.specs.declared.Delta.{Delta}
 use Rattle.spread.proofs.Lent.{delta_at_lem}
 use Rattle.formulas.specs.code.Position.{AtMost, Added, deltas_in}
+use Rattle.exact.proofs.Integers.{sfits_abs}
+use Rattle.formulas.proofs.Calls.{handed, op_fits, op_is}
 use Rattle.formulas.proofs.SignedCalls.{abs_plus}
 
 pub start : (more : ℕ → ℤ) (xs : List ℤ) → Added 0 more xs xs
@@ -33,6 +38,25 @@ next i more xs ys z a h e =
   where
     earlier : (k : ℕ) → k < i → get_or (set ys i z) k (pos 0) ≡ get_or xs k (pos 0) +ℤ more k
     earlier k l = get_or-set_other ys i k z (pos 0) (λ q. omega arith) ∙ a.added k l
+
+-- the same of a number in the code: place i is read, y is added or taken away, and what comes out is put there
+module _ (op : ℤ → ℤ → ℤ) (i : ℕ) (more : ℕ → ℤ) (xs ys : List ℤ) (at : Added i more xs ys) (y b : ℤ) (fy : mag y < 2 ^ 63) (ey : y ≡ b)
+    (here : nat_abs (get_or xs i (pos 0)) < 2 ^ 63) (small : nat_abs (op (get_or xs i (pos 0)) b) < 2 ^ 63) where
+  same : get_or ys i (pos 0) ≡ get_or xs i (pos 0)
+  same = at.others i (le_refl i)
+
+  read : SFits w64 (get_or ys i (pos 0))
+  read = sfits_abs (get_or ys i (pos 0)) (omega (arith, ap nat_abs same))
+
+  pub put_fits : SFits w64 (op (handed (get_or ys i (pos 0))) (handed y))
+  put_fits = op_fits op (get_or ys i (pos 0)) y (get_or xs i (pos 0)) b read.sfits fy same ey small
+
+  pub put_next : i < length xs → op (get_or xs i (pos 0)) b ≡ get_or xs i (pos 0) +ℤ more i
+      → Added (i + 1) more xs (set ys i (handed (op (handed (get_or ys i (pos 0))) (handed y))))
+  put_next h e =
+      let put = op (handed (get_or ys i (pos 0))) (handed y) in
+      next i more xs ys (handed put) at h
+      (op_is op (get_or ys i (pos 0)) y (get_or xs i (pos 0)) b read.sfits fy same ey put put_fits.sfits refl ∙ e)
 
 -- nothing is added
 pub nothing-added : (n : ℕ) (more : ℕ → ℤ) (xs : List ℤ) → ((k : ℕ) → more k ≡ pos 0) → Added n more xs xs

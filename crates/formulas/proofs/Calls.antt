@@ -1,6 +1,6 @@
 -- Sums and differences of signed results: a call of `plus` or `minus` on what two calls gave, in the integers.
 -- Assumes nothing.
-use mathlib.Core.Path.{◌≡◌, ap₂, ◌∙◌, subst⁻¹}
+use mathlib.Core.Path.{◌≡◌, refl, ap₂, ◌∙◌, subst⁻¹}
 use Prim.Native.Nat.{◌<◌, ◌^◌}
 use lib.Signed.{mag}
 use lib.IntN.{ℤ, nat_abs}
@@ -22,3 +22,7 @@ module _ (op : ℤ → ℤ → ℤ) (x y a b : ℤ) (fx : mag x < 2 ^ 63) (fy : 
 
   pub op_is : (r : ℤ) → mag r < 2 ^ 63 → r ≡ op (handed x) (handed y) → handed r ≡ op a b
   op_is r fr e = back r (record { sfits = fr }) ∙ e ∙ on_handed
+
+  -- the same of an operation in the code
+  pub native_is : nat_abs (op a b) < 2 ^ 63 → handed (op (handed x) (handed y)) ≡ op a b
+  native_is h = op_is (op (handed x) (handed y)) (op_fits h).sfits refl

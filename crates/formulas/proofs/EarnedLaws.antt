@@ -5,11 +5,10 @@ use native.Mathlib.Nat.{not-suc-le-zero, add-zero, zero-mul}
 use native.Mathlib.Decide.{ℕ_discrete}
 use native.Mathlib.Omega.{arith}
 use mathlib.Core.Path.{◌≡◌, refl, sym, ap, ap₂, ◌∙◌, subst, subst⁻¹}
-use mathlib.Core.Bool.{Bool, true, false, cond, ◌&&◌}
+use mathlib.Core.Bool.{Bool, true, false, cond}
 use mathlib.Core.List.{List, []}
 use mir.Syntax.{w64}
 use mir.Val.{Fits}
-use borrow.Author.Tests.{eq-eqb, eqb-true}
 use lib.Dec.{eqb}
 use lib.IntN.{nat_abs}
 use lib.ListN.{length, get_or, set, replicate, length-set}
@@ -17,7 +16,6 @@ use lib.Seq.{get_or-set_same, get_or-set_other}
 use Rattle.record.specs.Layout.{Record, contract, second_contract, percent, first_ratio, second_ratio, tenths}
 use Rattle.account.specs.Check.{most_contracts, most_entries}
 use Rattle.spread.specs.declared.Spreads.{Spreads}
-use Rattle.spread.proofs.Both.{and_left, and_right}
 use Rattle.spread.proofs.Filling.{get_d_same}
 use Rattle.formulas.specs.declared.amount.Amount.{Amount}
 use Rattle.formulas.specs.declared.charges.Earner.{Earner}
@@ -26,10 +24,9 @@ use Rattle.formulas.specs.Bounds.{most_credit, most_credits}
 use Rattle.formulas.specs.Credit.{both_take, entry_use, credits_by}
 use Rattle.formulas.specs.code.Lines.{no_line}
 use Rattle.formulas.specs.code.Sums.{interleaved, spreads_at, EntriesRoom}
-use Rattle.formulas.specs.code.Table.{earns, EarnerOf, earner_at, LinesRise, Listed, EarnersOf, earns_from, WithEntry, WalkRoom, EarnedBy, ByLine}
-use Rattle.formulas.specs.code.Table.{CreditsRoom, CreditsOf}
+use Rattle.formulas.specs.code.Table.{earns, EarnerOf, earner_at, LinesRise, Listed, EarnersOf, earns_from, WithEntry, WalkRoom, EarnedBy, ByLine, CreditsRoom, CreditsOf}
 use Rattle.formulas.specs.code.Within.{EntryFit, EntriesFit}
-use Rattle.formulas.proofs.SumLaws.{ToGo, start, next, finish, credit_from, credit_step, credit-none, use_none, nothing_used}
+use Rattle.formulas.proofs.SumLaws.{ToGo, next, finish, credit_from, credit_step, credit-none, use_none, nothing_used}
 
 -- the first i lines stand at their numbers
 pub record Put (lines : List Line) (i : ℕ) (units prices nets : List ℕ) : Type 0 where
@@ -108,10 +105,6 @@ earners_start units prices nets lines eu ep en =
           };
     }
 
--- a contract without a net delta earns nothing
-pub no_net : (by : Earner) (e : Record) (f s : ℕ) → by.net ≡ 0 → 0 ≡ earns_from by e f s
-no_net by e f s h = rw (eq-eqb by.net 0 h)
-
 -- an entry that formed nothing adds nothing
 none_used : (c : ℕ) (e : Record) → entry_use c e 0 0 ≡ 0
 none_used c e = go (eqb c (contract e)) (eqb c (second_contract e))
@@ -125,9 +118,9 @@ none_used c e = go (eqb c (contract e)) (eqb c (second_contract e))
     go false true = none (tenths e) (second_ratio e)
     go false false = refl
 
-pub none-formed : (units prices nets : List ℕ) (e : Record) (f s : ℕ) (before : List ℕ) → length before ≡ most_contracts → eqb f 0 && eqb s 0 ≡ true
+pub none-formed : (units prices nets : List ℕ) (e : Record) (f s : ℕ) (before : List ℕ) → length before ≡ most_contracts → f ≡ 0 → s ≡ 0
     → WithEntry (earner_at units prices nets) e f s before before
-none-formed units prices nets e f s before n h =
+none-formed units prices nets e f s before n hf hs =
     record {
       places = n;
       each = λ c l. sym (add-zero (get_or before c 0)) ∙ ap (λ (k : ℕ). get_or before c 0 + k) (nothing c);
@@ -137,7 +130,7 @@ none-formed units prices nets e f s before n h =
     nothing : (c : ℕ) → 0 ≡ earns_from (earner_at units prices nets c) e f s
     nothing c =
         nothing_used (get_or units c 0) (get_or prices c 0) _ (percent e) (get_or nets c 0)
-        (ap₂ (entry_use c e) (eqb-true f 0 (and_left (eqb f 0) (eqb s 0) h)) (eqb-true s 0 (and_right (eqb f 0) (eqb s 0) h)) ∙ none_used c e)
+        (ap₂ (entry_use c e) hf hs ∙ none_used c e)
 
 -- an entry adds to its two contracts, and nothing to any other
 module _ (units prices nets : List ℕ) (e : Record) (f s a b : ℕ) (fits : EntryFit e) (ea : a ≡ contract e) (eb : b ≡ second_contract e) where
@@ -201,14 +194,6 @@ module _ (units prices nets : List ℕ) (rs : List Record) (firsts seconds : Lis
     pub within : i ≤ n
     pub places : length earned ≡ most_contracts
     pub each : (c : ℕ) → c < most_contracts → ToGo n most_credit (rest c) i (get_or earned c 0)
-
-  pub walk_start : (n : ℕ) → Walked n 0 (replicate most_contracts 0)
-  walk_start n =
-      record {
-        within = zero-le;
-        places = refl;
-        each = λ c h. subst⁻¹ (ToGo n most_credit (rest c) 0) (get_d_same most_contracts 0 c) (start n most_credit (rest c));
-      }
 
   pub walk_next : (n i : ℕ) (before after : List ℕ) → n ≡ length rs → length rs ≤ length firsts → length rs ≤ length seconds → i < n → Walked n i before
       → WithEntry (earner_at units prices nets) (get_or rs i []) (spreads_at firsts i) (spreads_at seconds i) before after → Walked n (i + 1) after

@@ -2,6 +2,7 @@ pub mod AddedLaws
 pub mod AmountLaws
 pub mod BookLaws
 pub mod Calls
+pub mod ChunkLaws
 pub mod ContractLaws
 pub mod CreditLaws
 pub mod EarnedLaws
@@ -12,6 +13,7 @@ pub mod PairLaws
 pub mod PlacedLaws
 pub mod PositionBounds
 pub mod PositionLaws
+pub mod ProductLaws
 pub mod RaisedLaws
 pub mod RecordLaws
 pub mod RiskLaws

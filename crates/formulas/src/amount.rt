@@ -100,17 +100,12 @@ pub fn risk(scanning: Amount, interprompt: Amount, prompt: Amount, credit: Amoun
     ensures { (result.0 ≡ Margin.risk scanning.0 interprompt.0 prompt.0 credit.0) × (result.0 ≤ 3 * most_risk) }
 {
     let all = scanning.0 + interprompt.0 + prompt.0;
-    let less = credit.0;
-    if all < less {
-        Amount(0)
-    } else {
-        Amount(all - less)
-    }
+    Amount(all.saturating_sub(credit.0))
 }
 
 // The margin: the larger of the short option minimum and the risk.
 pub fn margin(minimum: Amount, risk: Amount) -> Amount
     ensures { result.0 ≡ Margin.margin minimum.0 risk.0 }
 {
-    if minimum.0 < risk.0 { risk } else { minimum }
+    Amount(minimum.0.max(risk.0))
 }

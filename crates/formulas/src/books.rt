@@ -14,19 +14,6 @@ use spread::book::put_book;
 use spread::touches::put_counted;
 use spread::{MOST_PROMPTS, MOST_SPREADS};
 
-// Nothing is used: what is unused are the net deltas.
-fn put_unused(nets: &[i64], unused: &mut [i64; MOST_PROMPTS])
-    requires { (length nets.now ≡ prompt_places) × (length unused.old ≡ prompt_places) }
-    ensures { unused.new ≡ nets.now }
-{
-    let mut i = 0;
-    while i < MOST_PROMPTS {
-        let net = nets[i];
-        unused[i] = net;
-        i += 1;
-    }
-}
-
 // The book of a contract's interprompt spreads, over its prompts and their net deltas, in lent arrays of zeros. Without spreads nothing is used. Where
 // it is asked for, how often the steps take of a prompt: the contract's tiers and its table are made once for both.
 pub fn put_contract_book(
@@ -48,7 +35,7 @@ pub fn put_contract_book(
         (opens_with (records prompts.now) nets.now)) × (result ≤ most_touches) }
 {
     if spreads.len() < RECORD_BYTES {
-        put_unused(nets, unused);
+        *unused = *nets;
         return 0;
     }
     let mut tiers = [0u8; MOST_PROMPTS];
@@ -56,8 +43,9 @@ pub fn put_contract_book(
     let count = prompts.len() / RECORD_BYTES;
     let table = interprompt_table(spreads);
     if counted {
-        return put_counted(count, &tiers, nets, table, first, second, used, unused);
+        put_counted(count, &tiers, nets, table, first, second, used, unused)
+    } else {
+        put_book(count, &tiers, nets, table, first, second, used, unused);
+        0
     }
-    put_book(count, &tiers, nets, table, first, second, used, unused);
-    0
 }

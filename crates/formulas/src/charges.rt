@@ -40,19 +40,10 @@ pub(crate) fn interprompt_charge(
     ensures { (result.0 ≡ interprompt_charge unit (records spreads.now)
         (interleaved (spreads_from first.now) (spreads_from second.now))) × (result.0 ≤ most_spreads * most_charge) }
 {
-    let count = spreads.len() / RECORD_BYTES;
-    let mut sum: u64 = 0;
-    let mut i = 0;
-    while i < count {
-        let at = i * RECORD_BYTES;
-        let charge = charge_of_spread(
-            unit,
-            &spreads[at..at + RECORD_BYTES],
-            Spreads(first[i]),
-            Spreads(second[i]),
-        );
+    let mut sum = 0;
+    for (i, s) in spreads.chunks_exact(RECORD_BYTES).enumerate() {
+        let charge = charge_of_spread(unit, s, Spreads(first[i]), Spreads(second[i]));
         sum += charge.0;
-        i += 1;
     }
     Amount(sum)
 }
@@ -81,19 +72,10 @@ pub(crate) fn prompt_charges(
     ensures { (result.0 ≡ prompt_charges unit (records prompts.now) used.now unused.now)
         × (result.0 ≤ most_prompts * most_charge) }
 {
-    let count = prompts.len() / RECORD_BYTES;
-    let mut sum: u64 = 0;
-    let mut i = 0;
-    while i < count {
-        let at = i * RECORD_BYTES;
-        let charge = charge_of_prompt(
-            unit,
-            &prompts[at..at + RECORD_BYTES],
-            Delta(used[i]),
-            Delta(unused[i]),
-        );
+    let mut sum = 0;
+    for (i, p) in prompts.chunks_exact(RECORD_BYTES).enumerate() {
+        let charge = charge_of_prompt(unit, p, Delta(used[i]), Delta(unused[i]));
         sum += charge.0;
-        i += 1;
     }
     Amount(sum)
 }
@@ -124,12 +106,12 @@ fn entry_use(c: usize, e: &[u8], first: Spreads, second: Spreads) -> u64
     ensures { result ≡ entry_use c e.now first.0 second.0 }
 {
     if c == contract(e) {
-        return both_take(tenths(e), first_ratio(e), first, second);
+        both_take(tenths(e), first_ratio(e), first, second)
+    } else if c == second_contract(e) {
+        both_take(tenths(e), second_ratio(e), first, second)
+    } else {
+        0
     }
-    if c == second_contract(e) {
-        return both_take(tenths(e), second_ratio(e), first, second);
-    }
-    0
 }
 
 // A contract as the intercontract table sees it: its unit, its number, twice its price risk, and the size of its net delta.
@@ -182,16 +164,9 @@ fn credit_at(
         unit: units[c],
         contract: c,
         twice_price: prices[c],
-        net: net,
+        net,
     };
     credit_from(e, earner, first, second)
-}
-
-// Whether an entry formed nothing.
-fn formed_none(first: Spreads, second: Spreads) -> bool
-    ensures { result ≡ eqb first.0 0 && eqb second.0 0 }
-{
-    (first.0 == 0) & (second.0 == 0)
 }
 
 // One entry more in what the contracts earned, by their numbers: it adds to its two contracts alone, and nothing where it formed nothing.
@@ -208,7 +183,7 @@ fn add_credits(
     ensures { WithEntry (earner_at units.now prices.now nets.now) e.now first.0 second.0
         earned.old earned.new }
 {
-    if formed_none(first, second) {
+    if first.0 == 0 && second.0 == 0 {
         return;
     }
     let a = contract(e);
@@ -233,12 +208,8 @@ pub fn credits(
     ensures { EarnedBy (earner_at units.now prices.now nets.now) (records entries.now)
         (spreads_from first.now) (spreads_from second.now) result }
 {
-    let count = entries.len() / RECORD_BYTES;
-    let mut earned = [0u64; CONTRACTS];
-    let mut i = 0;
-    while i < count {
-        let at = i * RECORD_BYTES;
-        let e = &entries[at..at + RECORD_BYTES];
+    let mut earned = [0; CONTRACTS];
+    for (i, e) in entries.chunks_exact(RECORD_BYTES).enumerate() {
         add_credits(
             &mut earned,
             units,
@@ -248,7 +219,6 @@ pub fn credits(
             Spreads(first[i]),
             Spreads(second[i]),
         );
-        i += 1;
     }
     earned
 }

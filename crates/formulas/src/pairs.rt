@@ -10,12 +10,8 @@ const PAIRS: [usize; SCENARIOS] = [2, 1, 4, 3, 6, 5, 8, 7, 10, 9, 12, 11, 14, 13
 pub fn pair_of(scenario: usize) -> usize
     ensures { result ≡ pair_of scenario }
 {
-    if scenario == 0 {
-        return 0;
+    match scenario {
+        1..=SCENARIOS => PAIRS[scenario - 1],
+        _ => 0,
     }
-    let at = scenario - 1;
-    if SCENARIOS <= at {
-        return 0;
-    }
-    PAIRS[at]
 }

@@ -1,5 +1,5 @@
 // Scanning risk, active scenario and price risk: what a contract's sixteen totals say.
-ghost use Rattle.std.specs.Prelude.{◌≡◌, ◌≤◌, ◌*◌, ◌-◌, pos, nat_abs, ◌+ℤ◌, get_or};
+ghost use Rattle.std.specs.Prelude.{◌≡◌, ◌≤◌, ◌*◌, ◌-◌, nat_abs, ◌+ℤ◌};
 ghost use Rattle.formulas.specs.Bounds.{most_risk};
 ghost use Rattle.formulas.specs.Credit.{total_of, twice_price_risk_at};
 ghost use Rattle.formulas.specs.code.Risks.{TotalsWithin, Scanned};
@@ -7,28 +7,14 @@ ghost use Rattle.formulas.specs.code.Risks.{TotalsWithin, Scanned};
 use crate::amount::Amount;
 use crate::pairs::pair_of;
 use exact::largest::largest;
-use exact::signed::{minus, or_zero, plus};
+use exact::signed::or_zero;
 use record::fields::SCENARIOS;
-
-// The total in a place from 0 on; 0 past the last.
-fn total_at(totals: &[i64], at: usize) -> i64
-    ensures { result ≡ get_or totals.now at (pos 0) }
-{
-    if at < totals.len() { totals[at] } else { 0 }
-}
-
-// Where a scenario stands, scenario 1 first.
-fn place_of(scenario: usize) -> usize
-    ensures { result ≡ scenario - 1 }
-{
-    if scenario == 0 { 0 } else { scenario - 1 }
-}
 
 // The total of a scenario 1 to 16; 0 for what is no scenario past them.
 fn total_of(totals: &[i64], scenario: usize) -> i64
     ensures { result ≡ total_of totals.now scenario }
 {
-    total_at(totals, place_of(scenario))
+    totals.get(scenario.saturating_sub(1)).copied().unwrap_or(0)
 }
 
 // The totals of two scenarios together.
@@ -36,7 +22,7 @@ fn both(totals: &[i64; SCENARIOS], one: usize, other: usize) -> i64
     requires { TotalsWithin totals.now }
     ensures { (result ≡ total_of totals.now one +ℤ total_of totals.now other) × (nat_abs result ≤ 2 * most_risk) }
 {
-    plus(total_of(totals, one), total_of(totals, other))
+    total_of(totals, one) + total_of(totals, other)
 }
 
 // Twice the price risk, the halves kept, where the active scenario is known.
@@ -44,8 +30,7 @@ fn twice_price_risk(totals: &[i64; SCENARIOS], active: usize) -> u64
     requires { TotalsWithin totals.now }
     ensures { (result ≡ twice_price_risk_at totals.now active) × (result ≤ 4 * most_risk) }
 {
-    let paired = pair_of(active);
-    or_zero(minus(both(totals, active, paired), both(totals, 1, 2)))
+    or_zero(both(totals, active, pair_of(active)) - both(totals, 1, 2))
 }
 
 // What the totals say: the active scenario, the scanning risk, and twice the price risk.
@@ -61,12 +46,9 @@ pub(crate) fn scanned(totals: &[i64; SCENARIOS]) -> Risks
     ensures { Scanned totals.now result.active result.scanning.0 result.twice_price }
 {
     let worst = largest(*totals);
-    let active = worst.number;
-    let scanning = Amount(or_zero(worst.value));
-    let twice_price = twice_price_risk(totals, active);
     Risks {
-        active: active,
-        scanning: scanning,
-        twice_price: twice_price,
+        active: worst.number,
+        scanning: Amount(or_zero(worst.value)),
+        twice_price: twice_price_risk(totals, worst.number),
     }
 }

@@ -21,7 +21,7 @@ ghost use Rattle.formulas.specs.declared.rows.Position.{Position};
 
 use account::rates::{Factors, Rates, converted, factors_of, per_tick};
 use exact::rounding::half_away_to;
-use exact::signed::{as_natural, as_signed, is_negative, magnitude, minus, plus, times};
+use exact::signed::magnitude;
 use record::bytes::RECORD_BYTES;
 use record::fields::{SCENARIOS, currency, day, delta, loss, lots, row_type};
 use spread::plain::{deltas_from, plain};
@@ -50,13 +50,13 @@ pub struct Days {
 const RAISE: u64 = 100_000;
 
 // How many numbers four bytes hold.
-const FOUR_BYTES: u64 = 4_294_967_296;
+const FOUR_BYTES: u64 = 1 << 32;
 
 // Four bytes in which every bit is 1.
-const ONES: u32 = 4_294_967_295;
+const ONES: u32 = u32::MAX;
 
 // Every day is as early, or earlier.
-const LATEST: u32 = 4_294_967_295;
+const LATEST: u32 = u32::MAX;
 
 // The last byte of a day has so many values.
 const GUESSES: usize = 256;
@@ -66,7 +66,7 @@ fn product(each: i64, loss: i64, unit: u64) -> i64
     requires { (nat_abs each ≤ most_per_tick) × (nat_abs loss ≤ hundred_thousand) × (unit ≤ most_unit) }
     ensures { Sized most_product (half_away_to (each *ℤ loss) unit) result }
 {
-    half_away_to(times(each, loss), unit)
+    half_away_to(each * loss, unit)
 }
 
 // The same in another currency, converted at its rate.
@@ -77,7 +77,7 @@ fn converted_product(f: Factors, each: i64, loss: i64, unit: u64) -> i64
         × ((f.raised ≤ most_factor) × ((f.lowered ≤ most_factor) × (nat_abs (converted_at f.raised f.lowered (each *ℤ loss)) ≤ most_conversion))))) }
     ensures { Sized most_product (half_away_to (converted_at f.raised f.lowered (each *ℤ loss)) unit) result }
 {
-    half_away_to(converted(f, times(each, loss)), unit)
+    half_away_to(converted(f, each * loss), unit)
 }
 
 // Lots × delta.
@@ -85,21 +85,17 @@ fn row_delta(row: &[u8]) -> Delta
     requires { RowFit row.now }
     ensures { Sized most_row_delta (row_delta row.now) result.0 }
 {
-    Delta(times(lots(row), delta(row)))
+    Delta(lots(row) * delta(row))
 }
 
 // The lots of a short position, 0 of a long one.
 fn short(lots: i64) -> u64
     ensures { result ≡ Margin.short lots }
 {
-    if is_negative(lots) {
-        magnitude(lots)
-    } else {
-        0
-    }
+    if lots < 0 { magnitude(lots) } else { 0 }
 }
 
-// The short lots of a call or put, 0 of a forward.
+// The short lots of a call or put, 0 of a forward. The lots are read first, so that the test is no branch.
 fn short_options(row: &[u8]) -> u64
     ensures { result ≡ short_options row.now }
 {
@@ -113,11 +109,8 @@ fn add_own(totals: &mut [i64; SCENARIOS], unit: u64, row: &[u8])
     ensures { Added scenario_count (own_products unit row.now) totals.old totals.new }
 {
     let each = per_tick(row);
-    let mut s = 0;
-    while s < SCENARIOS {
-        let more = product(each, loss(row, s + 1), unit);
-        totals[s] = plus(totals[s], more);
-        s += 1;
+    for (s, total) in totals.iter_mut().enumerate() {
+        *total += product(each, loss(row, s + 1), unit);
     }
 }
 
@@ -128,11 +121,8 @@ fn add_converted(totals: &mut [i64; SCENARIOS], f: Factors, unit: u64, row: &[u8
     ensures { Added scenario_count (converted_products f.raised f.lowered unit row.now) totals.old totals.new }
 {
     let each = per_tick(row);
-    let mut s = 0;
-    while s < SCENARIOS {
-        let more = converted_product(f, each, loss(row, s + 1), unit);
-        totals[s] = plus(totals[s], more);
-        s += 1;
+    for (s, total) in totals.iter_mut().enumerate() {
+        *total += converted_product(f, each, loss(row, s + 1), unit);
     }
 }
 
@@ -141,28 +131,28 @@ fn bits(loss: i64) -> u32
     requires { nat_abs loss ≤ hundred_thousand }
     ensures { result ≡ loss_bits loss }
 {
-    (as_natural(plus(loss, FOUR_BYTES as i64)) % FOUR_BYTES) as u32
+    ((loss + FOUR_BYTES as i64) as u64 % FOUR_BYTES) as u32
 }
 
 // The bits of a loss that are turned: all where lots × value are negative, else none.
 fn turn_of(each: i64) -> u32
     ensures { result ≡ turn_of each }
 {
-    if is_negative(each) { ONES } else { 0 }
+    if each < 0 { ONES } else { 0 }
 }
 
 // What a loss is raised by: one more where its bits are turned, since they are then one less than the loss with the other sign.
 fn raise_of(each: i64) -> u64
     ensures { result ≡ raise_of each }
 {
-    if is_negative(each) { RAISE + 1 } else { RAISE }
+    if each < 0 { RAISE + 1 } else { RAISE }
 }
 
 // Bits as they are or, where the turn has its first bit, all turned.
 fn turned(bits: u32, turn: u32) -> u32
     ensures { result ≡ turned_bits bits turn }
 {
-    if ONES / 2 < turn { ONES - bits } else { bits }
+    if ONES / 2 < turn { !bits } else { bits }
 }
 
 // A loss with the sign of lots × value, whose turn and raise these are, raised so that it is no longer negative.
@@ -182,11 +172,8 @@ fn add_raised(sums: &mut [i64; SCENARIOS], each: i64, row: &[u8])
     let size = magnitude(each) % FOUR_BYTES;
     let raise = raise_of(each);
     let turn = [turn_of(each); SCENARIOS];
-    let mut s = 0;
-    while s < SCENARIOS {
-        let more = as_signed(size * raised(loss(row, s + 1), turn[s], raise));
-        sums[s] = plus(sums[s], more);
-        s += 1;
+    for s in 0..SCENARIOS {
+        sums[s] += (size * raised(loss(row, s + 1), turn[s], raise)) as i64;
     }
 }
 
@@ -195,7 +182,7 @@ fn unraised(sum: i64, sizes: u64) -> i64
     requires { (nat_abs sum ≤ most_rows * most_raised) × (sizes ≤ most_rows * most_per_tick) }
     ensures { Sized (2 * (most_rows * most_raised)) (sum -ℤ pos (sizes * hundred_thousand)) result }
 {
-    minus(sum, as_signed(sizes * RAISE))
+    sum - (sizes * RAISE) as i64
 }
 
 // The totals with what stands in the sums.
@@ -203,11 +190,8 @@ fn settle(totals: &mut [i64; SCENARIOS], sums: &[i64; SCENARIOS], sizes: u64)
     requires { SumsRoom most_rows totals.old sums.now sizes }
     ensures { totals.new ≡ settled totals.old sums.now sizes }
 {
-    let mut s = 0;
-    while s < SCENARIOS {
-        let more = unraised(sums[s], sizes);
-        totals[s] = plus(totals[s], more);
-        s += 1;
+    for s in 0..SCENARIOS {
+        totals[s] += unraised(sums[s], sizes);
     }
 }
 
@@ -251,45 +235,25 @@ pub fn days_of(prompts: &[u8]) -> Days
     requires { record_count prompts.now ≤ most_prompts }
     ensures { DaysOf (records prompts.now) result }
 {
-    let count = prompts.len() / RECORD_BYTES;
-    let mut days = [LATEST; MOST_PROMPTS];
-    let mut j = 0;
-    while j < count {
-        let at = j * RECORD_BYTES;
-        days[j] = day_of(&prompts[at..at + RECORD_BYTES]);
-        j += 1;
+    let mut day = [LATEST; MOST_PROMPTS];
+    for (j, p) in prompts.chunks_exact(RECORD_BYTES).enumerate() {
+        day[j] = day_of(p);
     }
-    Days { count, day: days }
+    Days {
+        count: prompts.len() / RECORD_BYTES,
+        day,
+    }
 }
 
 // What no rows come to.
 pub fn flat() -> Position
     ensures { (rates : List Record) (unit : ℕ) (prompts : List Record) → length prompts ≤ most_prompts → PositionOf rates unit prompts [] result }
 {
-    let totals = [0i64; SCENARIOS];
-    let none = Delta(0);
-    let nets = [none; MOST_PROMPTS];
     Position {
-        totals: Totals(totals),
-        nets,
+        totals: Totals([0; SCENARIOS]),
+        nets: [Delta(0); MOST_PROMPTS],
         shorts: 0,
     }
-}
-
-// Where a day stands if they rise: by halves, how many are earlier.
-fn earlier(days: &[u32; MOST_PROMPTS], d: u32) -> u32
-    ensures { result ≤ most_prompts }
-{
-    let mut n: u32 = 0;
-    let mut half: u32 = 16;
-    while 0 < half {
-        let more = n + half;
-        if days[(more - 1) as usize] < d {
-            n = more;
-        }
-        half = half / 2;
-    }
-    n
 }
 
 // The first place of a day, and the number of days where there is none.
@@ -297,14 +261,10 @@ fn first_place(days: &[u32; MOST_PROMPTS], count: usize, d: u32) -> usize
     requires { count ≤ most_prompts }
     ensures { FirstPlace days.now count d result }
 {
-    let mut j = 0;
-    while j < count {
-        if days[j] == d {
-            return j;
-        }
-        j += 1;
-    }
-    j
+    days[..count]
+        .iter()
+        .position(|day| *day == d)
+        .unwrap_or(count)
 }
 
 // For each last byte of a day a place where such a day may stand. A guess is compared before it is used: it need only be a place.
@@ -312,11 +272,9 @@ fn guesses(days: &[u32; MOST_PROMPTS], count: usize) -> [u8; GUESSES]
     requires { count ≤ most_prompts }
     ensures { Guessed count result }
 {
-    let mut guess = [0u8; GUESSES];
-    let mut j = 0;
-    while j < count {
-        guess[(days[j] % 256) as usize] = j as u8;
-        j += 1;
+    let mut guess = [0; GUESSES];
+    for (j, day) in days[..count].iter().enumerate() {
+        guess[(*day % 256) as usize] = j as u8;
     }
     guess
 }
@@ -330,11 +288,9 @@ fn place_of(days: &[u32; MOST_PROMPTS], guess: &[u8; GUESSES], count: usize, d: 
     if days[guessed] == d {
         return guessed;
     }
-    let place = earlier(days, d) as usize;
-    if place < count {
-        if days[place] == d {
-            return place;
-        }
+    let place = days.partition_point(|day| *day < d);
+    if place < count && days[place] == d {
+        return place;
     }
     first_place(days, count, d)
 }
@@ -353,7 +309,7 @@ fn add_delta(
     ensures { Added count (adds_on days.now d more.0) nets.old nets.new }
 {
     let j = place_of(days, guess, count, d);
-    nets[j] = plus(nets[j], more.0);
+    nets[j] += more.0;
 }
 
 // Net deltas with more rows, in one walk over these.
@@ -362,14 +318,9 @@ fn add_nets(nets: &mut [i64; MOST_PROMPTS], days: &[u32; MOST_PROMPTS], prompts:
         × (RowsFit (records rows.now) × AtMost prompt_places ((most_rows - length (records rows.now)) * most_row_delta) nets.old)) }
     ensures { Added prompts (λ j. net_on (records rows.now) (get_or days.now j 0)) nets.old nets.new }
 {
-    let count = rows.len() / RECORD_BYTES;
     let guess = guesses(days, prompts);
-    let mut i = 0;
-    while i < count {
-        let at = i * RECORD_BYTES;
-        let row = &rows[at..at + RECORD_BYTES];
+    for row in rows.chunks_exact(RECORD_BYTES) {
         add_delta(nets, days, &guess, prompts, day_of(row), row_delta(row));
-        i += 1;
     }
 }
 
@@ -382,17 +333,12 @@ fn add_totals(totals: &mut [i64; SCENARIOS], rates: Rates, unit: u64, rows: &[u8
         totals.old totals.new }
     ensures shorts { result ≡ short_lots (records rows.now) }
 {
-    let count = rows.len() / RECORD_BYTES;
-    let mut sums = [0i64; SCENARIOS];
+    let mut sums = [0; SCENARIOS];
     let mut sizes = 0;
     let mut shorts = 0;
-    let mut i = 0;
-    while i < count {
-        let at = i * RECORD_BYTES;
-        let row = &rows[at..at + RECORD_BYTES];
+    for row in rows.chunks_exact(RECORD_BYTES) {
         sizes = add_row(totals, &mut sums, sizes, rates, unit, row);
-        shorts = shorts + short_options(row);
-        i += 1;
+        shorts += short_options(row);
     }
     settle(totals, &sums, sizes);
     shorts
@@ -431,15 +377,12 @@ pub fn with_rows(p: Position, days: Days, rates: Rates, unit: u64, rows: &[u8]) 
         → PositionOf held unit prompts (earlier ++ records rows.now) result }
     ensures most { Bounded most_rows result }
 {
-    let its_totals = p.totals;
-    let mut totals = its_totals.0;
-    let its_nets = p.nets;
-    let mut nets = plain(its_nets);
-    let its_days = days.day;
+    let mut totals = p.totals.0;
+    let mut nets = plain(p.nets);
     let more = add_rows(
         &mut totals,
         &mut nets,
-        &its_days,
+        &days.day,
         days.count,
         rates,
         unit,
@@ -460,8 +403,7 @@ pub fn put_net_deltas(nets: &mut [i64; MOST_PROMPTS], prompts: &[u8], rows: &[u8
         (with_nets rates unit (records rows.now) (deltas_from nets.new)) }
 {
     let days = days_of(prompts);
-    let its_days = days.day;
-    add_nets(nets, &its_days, days.count, rows);
+    add_nets(nets, &days.day, days.count, rows);
 }
 
 // The same in an array of their own.
@@ -470,18 +412,9 @@ pub fn nets_of(prompts: &[u8], rows: &[u8]) -> [Delta; MOST_PROMPTS]
     ensures { (rates : List Record) (unit : ℕ) → PositionOf rates unit (records prompts.now) (records rows.now)
         (with_nets rates unit (records rows.now) result) }
 {
-    let mut nets = [0i64; MOST_PROMPTS];
+    let mut nets = [0; MOST_PROMPTS];
     put_net_deltas(&mut nets, prompts, rows);
     deltas_from(nets)
-}
-
-// A net delta with one row more.
-fn net_with(net: Delta, row: &[u8]) -> Delta
-    requires { RowFit row.now × (nat_abs net.0 ≤ most_delta) }
-    ensures { result.0 ≡ net.0 +ℤ row_delta row.now }
-{
-    let more = row_delta(row);
-    Delta(plus(net.0, more.0))
 }
 
 // The net delta of rows together, of whatever days: that of a contract, each of whose rows is of one prompt's day.
@@ -489,53 +422,36 @@ pub fn rows_net(rows: &[u8]) -> Delta
     requires { RowsFit (records rows.now) }
     ensures { Sized most_delta (rows_net (records rows.now)) result.0 }
 {
-    let count = rows.len() / RECORD_BYTES;
-    let mut net = Delta(0);
-    let mut i = 0;
-    while i < count {
-        let at = i * RECORD_BYTES;
-        let more = net_with(net, &rows[at..at + RECORD_BYTES]);
-        net = more;
-        i += 1;
+    let mut net = 0;
+    for row in rows.chunks_exact(RECORD_BYTES) {
+        net += row_delta(row).0;
     }
-    net
+    Delta(net)
 }
 
 // Totals with others taken away, one by one.
-fn totals_without(t: Totals, gone: Totals) -> Totals
-    requires { AtMost scenario_count (most_rows * most_product) t.0 × AtMost scenario_count (most_rows * most_product) gone.0 }
-    ensures { Added scenario_count (λ k. neg_ℤ (get_or gone.0 k (pos 0))) t.0 result.0 }
+fn totals_without(mut totals: Totals, gone: Totals) -> Totals
+    requires { AtMost scenario_count (most_rows * most_product) totals.0 × AtMost scenario_count (most_rows * most_product) gone.0 }
+    ensures { Added scenario_count (λ k. neg_ℤ (get_or gone.0 k (pos 0))) totals.0 result.0 }
 {
-    let gone_from = gone.0;
-    let mut totals = t.0;
-    let mut s = 0;
-    while s < SCENARIOS {
-        totals[s] = minus(totals[s], gone_from[s]);
-        s += 1;
+    for s in 0..SCENARIOS {
+        totals.0[s] -= gone.0[s];
     }
-    Totals(totals)
-}
-
-fn net_without(net: Delta, gone: Delta) -> Delta
-    requires { (nat_abs net.0 ≤ most_delta) × (nat_abs gone.0 ≤ most_delta) }
-    ensures { result.0 ≡ net.0 -ℤ gone.0 }
-{
-    Delta(minus(net.0, gone.0))
+    totals
 }
 
 // Net deltas with others taken away, one by one.
-fn nets_without(nets: [Delta; MOST_PROMPTS], gone: [Delta; MOST_PROMPTS]) -> [Delta; MOST_PROMPTS]
+fn nets_without(
+    mut nets: [Delta; MOST_PROMPTS],
+    gone: [Delta; MOST_PROMPTS],
+) -> [Delta; MOST_PROMPTS]
     requires { AtMost prompt_places most_delta (deltas_in nets) × AtMost prompt_places most_delta (deltas_in gone) }
     ensures { Added prompt_places (λ j. neg_ℤ (get_or (deltas_in gone) j (pos 0))) (deltas_in nets) (deltas_in result) }
 {
-    let mut left = nets;
-    let mut j = 0;
-    while j < MOST_PROMPTS {
-        let net = net_without(left[j], gone[j]);
-        left[j] = net;
-        j += 1;
+    for j in 0..MOST_PROMPTS {
+        nets[j].0 -= gone[j].0;
     }
-    left
+    nets
 }
 
 // What rows come to without the last of them, which it has: the position before these rows, in every number.
@@ -547,13 +463,9 @@ pub fn without_rows(p: Position, days: Days, rates: Rates, unit: u64, rows: &[u8
         → result ≡ before }
 {
     let gone = with_rows(flat(), days, rates, unit, rows);
-    let its_totals = p.totals;
-    let gone_totals = gone.totals;
-    let its_nets = p.nets;
-    let gone_nets = gone.nets;
     Position {
-        totals: totals_without(its_totals, gone_totals),
-        nets: nets_without(its_nets, gone_nets),
+        totals: totals_without(p.totals, gone.totals),
+        nets: nets_without(p.nets, gone.nets),
         shorts: p.shorts - gone.shorts,
     }
 }
@@ -576,8 +488,7 @@ pub fn put_position(
     ensures most { Bounded most_rows (position_in totals.new nets.new result) }
 {
     let days = days_of(prompts);
-    let its_days = days.day;
-    add_rows(totals, nets, &its_days, days.count, rates, unit, rows)
+    add_rows(totals, nets, &days.day, days.count, rates, unit, rows)
 }
 
 // The same as a position.
@@ -587,8 +498,8 @@ pub fn position_of(rates: Rates, unit: u64, prompts: &[u8], rows: &[u8]) -> Posi
     ensures is { (held : List Record) → RatesOf held rates → PositionOf held unit (records prompts.now) (records rows.now) result }
     ensures most { Bounded most_rows result }
 {
-    let mut totals = [0i64; SCENARIOS];
-    let mut nets = [0i64; MOST_PROMPTS];
+    let mut totals = [0; SCENARIOS];
+    let mut nets = [0; MOST_PROMPTS];
     let shorts = put_position(&mut totals, &mut nets, rates, unit, prompts, rows);
     Position {
         totals: Totals(totals),

@@ -1,9 +1,11 @@
 // A contract's prompts and interprompt spreads, and the intercontract spreads, as the spread steps take them.
 ghost use Rattle.std.specs.Prelude.{◌≡◌, map, ◌≤◌, length, take};
 ghost use Rattle.record.specs.Layout as Layout;
+ghost use Rattle.record.specs.Layout.{Record};
 ghost use Rattle.account.specs.Check.{most_prompts, most_spreads, most_entries};
 ghost use Rattle.account.specs.Records.{records, record_count};
-ghost use Rattle.spread.specs.Accepted.{prompt_places};
+ghost use Rattle.spread.specs.Accepted.{prompt_places, spread_places};
+ghost use Rattle.spread.specs.declared.Spread.{Spread};
 ghost use Rattle.formulas.specs.Deltas as Deltas;
 ghost use Rattle.formulas.specs.Deltas.{leg_of};
 ghost use Rattle.formulas.specs.code.Tables.{TiersOf, TableOf};
@@ -35,6 +37,18 @@ fn interprompt(s: &[u8]) -> Spread
     }
 }
 
+const NO_LEG: Leg = Leg {
+    tier: 0,
+    side: 0,
+    ratio: 0,
+};
+
+const NO_SPREAD: Spread = Spread {
+    legs: 0,
+    leg: [NO_LEG; 3],
+    tenths: false,
+};
+
 // The first contract is A.
 fn intercontract(e: &[u8]) -> Spread
     ensures { result ≡ Deltas.intercontract e.now }
@@ -49,29 +63,27 @@ fn intercontract(e: &[u8]) -> Spread
         side: 2,
         ratio: second_ratio(e) as u16,
     };
-    let none = Leg {
-        tier: 0,
-        side: 0,
-        ratio: 0,
-    };
     Spread {
         legs: 2,
-        leg: [a, b, none],
+        leg: [a, b, NO_LEG],
         tenths: tenths(e),
     }
 }
 
-fn no_spread() -> Spread {
-    let none = Leg {
-        tier: 0,
-        side: 0,
-        ratio: 0,
+// The table of the spreads that records stand for, in file order.
+fn table_of<F: Fn(&[u8]) -> Spread>(file: &[u8], spread: F) -> Table
+    requires room { record_count file.now ≤ spread_places }
+    requires callable { F.IsAlwaysCallable spread }
+    ensures { (made : Record → Spread) → ((r : _) (s : Spread) → F.post spread r s → s ≡ made r.now) → TableOf made file.now result }
+{
+    let mut table = Table {
+        count: file.len() / RECORD_BYTES,
+        spread: [NO_SPREAD; MOST_SPREADS],
     };
-    Spread {
-        legs: 0,
-        leg: [none, none, none],
-        tenths: false,
+    for (i, r) in file.chunks_exact(RECORD_BYTES).enumerate() {
+        table.spread[i] = spread(r);
     }
+    table
 }
 
 // The table of a contract's interprompt spreads, in file order.
@@ -79,19 +91,7 @@ pub fn interprompt_table(spreads: &[u8]) -> Table
     requires { record_count spreads.now ≤ most_spreads }
     ensures { TableOf Deltas.interprompt spreads.now result }
 {
-    let count = spreads.len() / RECORD_BYTES;
-    let mut table = Table {
-        count: count,
-        spread: [no_spread(); MOST_SPREADS],
-    };
-    let mut i = 0;
-    while i < count {
-        let at = i * RECORD_BYTES;
-        let spread = interprompt(&spreads[at..at + RECORD_BYTES]);
-        table.spread[i] = spread;
-        i += 1;
-    }
-    table
+    table_of(spreads, interprompt)
 }
 
 // The table of intercontract spreads, in file order.
@@ -99,19 +99,7 @@ pub fn intercontract_table(entries: &[u8]) -> Table
     requires { record_count entries.now ≤ most_entries }
     ensures { TableOf Deltas.intercontract entries.now result }
 {
-    let count = entries.len() / RECORD_BYTES;
-    let mut table = Table {
-        count: count,
-        spread: [no_spread(); MOST_SPREADS],
-    };
-    let mut i = 0;
-    while i < count {
-        let at = i * RECORD_BYTES;
-        let spread = intercontract(&entries[at..at + RECORD_BYTES]);
-        table.spread[i] = spread;
-        i += 1;
-    }
-    table
+    table_of(entries, intercontract)
 }
 
 // The tiers of a contract's prompts, in lent places.
@@ -119,12 +107,8 @@ pub(crate) fn put_tiers(tiers: &mut [u8; MOST_PROMPTS], prompts: &[u8])
     requires { (length tiers.old ≡ prompt_places) × (record_count prompts.now ≤ most_prompts) }
     ensures { take (record_count prompts.now) tiers.new ≡ map Layout.tier (records prompts.now) }
 {
-    let count = prompts.len() / RECORD_BYTES;
-    let mut i = 0;
-    while i < count {
-        let at = i * RECORD_BYTES;
-        tiers[i] = tier(&prompts[at..at + RECORD_BYTES]) as u8;
-        i += 1;
+    for (i, p) in prompts.chunks_exact(RECORD_BYTES).enumerate() {
+        tiers[i] = tier(p) as u8;
     }
 }
 

@@ -1,21 +1,16 @@
 -- The spread steps accept a contract's prompts and spreads, their book is the contract's, and so is what they touch.
 -- Assumes nothing.
-use mathlib.Core.Path.{sym, ap, ◌∙◌}
+use mathlib.Core.Path.{sym, refl, ◌∙◌}
 use mathlib.Core.Bool.{true≢false}
 use Prim.Native.Nat.{zero-le}
 use native.Mathlib.Omega.{arith}
 use borrow.Author.Rules.{rules}
-use lib.ListN.{length}
 use Rattle.account.specs.Records.{records}
 use Rattle.formulas.specs.Deltas.{opens_with}
 use Rattle.formulas.proofs.BookLaws.{lent_sound, lent_book, lent_touches}
 use Rattle.formulas.proofs.RecordLaws.{count_is}
 use Rattle.formulas.proofs.UnspreadLaws.{unspread, untouched}
 use Rattle.formulas.proofs.books.put_contract_book.Goals as goal
-
-pub put_unused-requires : goal.put_unused-requires
-put_unused-requires c =
-    ((search rules), ap length c.requires.1.1.1)
 
 pub returns-then-spreads-lt-RECORD_BYTES : goal.returns-then-spreads-lt-RECORD_BYTES
 returns-then-spreads-lt-RECORD_BYTES c =
@@ -24,7 +19,7 @@ returns-then-spreads-lt-RECORD_BYTES c =
     let nets = c.args.nets.now in record {
       book = unspread prompts spreads nets c.args.first.now c.args.second.now c.args.used.now _ c.if-spreads-lt-RECORD_BYTES.true
           (search rules) c.requires.0.nets_beyond c.requires.1.0.0 c.requires.1.0.1
-          c.requires.1.1.0 c.put_unused.ensures;
+          c.requires.1.1.0 refl;
       touched = λ asked. (untouched spreads (opens_with prompts nets) c.if-spreads-lt-RECORD_BYTES.true, zero-le);
     }
 
@@ -60,8 +55,8 @@ put_book-requires c =
       c.requires.1,
     )
 
-pub returns : goal.returns
-returns c =
+pub returns-else-counted : goal.returns-else-counted
+returns-else-counted c =
     let table = c.interprompt_table-table in record {
       book = lent_book c.args.prompts.now c.args.spreads.now _ c.args.nets.now table.result c.put_tiers.ensures
           table.ensures c.requires.0 _ c.put_book.ensures;

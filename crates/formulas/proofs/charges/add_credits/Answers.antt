@@ -1,34 +1,20 @@
 -- An entry adds to its first contract, and to its second.
 -- Assumes nothing.
-use mathlib.Core.Path.{sym, ◌∙◌}
 use Prim.Native.Nat.{◌<◌}
 use native.Mathlib.Omega.{arith}
 use Rattle.account.specs.Check.{most_contracts}
 use Rattle.formulas.proofs.EarnedLaws.{none-formed, second_fits, with_entry}
 use Rattle.formulas.proofs.charges.add_credits.Goals as goal
 
-pub returns-then-formed_none : goal.returns-then-formed_none
-returns-then-formed_none c =
+pub returns-then-second-eq0 : goal.returns-then-second-eq0
+returns-then-second-eq0 c =
     none-formed c.args.units.now c.args.prices.now c.args.nets.now c.args.e.now c.args.first.0 c.args.second.0
-    c.args.earned.now c.requires.1.places (sym c.formed_none.ensures ∙ c.if-formed_none.true)
-
-pub credit_at-to_first-requires : goal.credit_at-to_first-requires
-credit_at-to_first-requires c =
-    let number = c.contract-a in
-    (omega (arith, number.ensures.0, c.requires.0.fits.first_number_lem), c.requires.0.each number.result)
+    c.args.earned.now c.requires.1.places c.if-first-eq0.true c.if-second-eq0.true
 
 pub credit_at-to_second-requires : goal.credit_at-to_second-requires
 credit_at-to_second-requires c =
     let number = c.second_contract-b in
     (omega (arith, number.ensures.0, c.requires.0.fits.second_number_lem), c.requires.0.each number.result)
-
-pub overflow_add-earned : goal.overflow_add-earned
-overflow_add-earned c =
-    let number = c.contract-a in
-    let small = c.credit_at-to_first.ensures.1 in
-    let below : number.result < most_contracts = omega (arith, number.ensures.0, c.requires.0.fits.first_number_lem) in
-    let so_far = c.requires.1.most number.result below in
-    omega arith
 
 pub overflow_add-earned-2 : goal.overflow_add-earned-2
 overflow_add-earned-2 c =

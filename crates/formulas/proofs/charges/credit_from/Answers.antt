@@ -1,9 +1,7 @@
 -- The credit from an entry, from what the entry uses and its percent.
 -- Assumes nothing.
-use mathlib.Core.Path.{sym, ◌∙◌, ap₂}
-use Prim.Native.Nat.{ℕ}
+use mathlib.Core.Path.{sym, ◌∙◌}
 use native.Mathlib.Omega.{arith}
-use Rattle.formulas.specs.Credit.{credit}
 use Rattle.formulas.proofs.SumLaws.{nothing_used}
 use Rattle.formulas.proofs.charges.credit_from.Goals as goal
 
@@ -12,12 +10,4 @@ returns-then-used-eq0 c = (
   nothing_used c.args.earner.unit c.args.earner.twice_price _ _ c.args.earner.net
       (sym c.entry_use-used.ensures ∙ c.if-used-eq0.true),
   omega arith,
-)
-
-pub returns : goal.returns
-returns c = (
-  c.credit.ensures.0
-      ∙ ap₂ (λ (u p : ℕ). credit c.args.earner.unit c.args.earner.twice_price u p c.args.earner.net)
-      c.entry_use-used.ensures c.percent.ensures.0,
-  c.credit.ensures.1,
 )

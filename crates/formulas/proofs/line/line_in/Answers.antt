@@ -3,7 +3,6 @@
 use Prim.Native.Nat.{ℕ, ◌≤◌}
 use mathlib.Core.Path.{◌≡◌, ◌∙◌, sym, ap, subst, subst⁻¹}
 use mathlib.Core.List.{List, map}
-use native.Mathlib.Omega.{arith}
 use lib.IntN.{ℤ, nat_abs}
 use lib.ListN.{length}
 use Rattle.exact.specs.Lists.{sum, sum_ℤ}
@@ -16,7 +15,7 @@ use Rattle.formulas.specs.Deltas.{opens_with, interprompt}
 use Rattle.formulas.specs.code.Position.{position_in}
 use Rattle.formulas.specs.code.Promised.{BookOf, Charged}
 use Rattle.formulas.specs.code.Sums.{deltas_in, SpreadsWithin, PromptsWithin}
-use Rattle.formulas.proofs.ContractLaws.{totals-room, net_sizes, spreads_room, prompts_room, line_is, line_with}
+use Rattle.formulas.proofs.ContractLaws.{net_sizes, spreads_room, prompts_room, line_is, line_with}
 use Rattle.spread.proofs.Lent.{deltas_again}
 use Rattle.formulas.proofs.line.line_in.Goals as goal
 use Rattle.formulas.proofs.line.line_in.Goals.{Start}
@@ -31,34 +30,24 @@ book_is c =
     subst⁻¹ (λ (zs : List ℤ). BookOf (steps (map interprompt (records a.spreads.now))) (opens_with (records a.prompts.now) zs)
     (book_in a.first.now a.second.now a.used.now a.unused.now)) (deltas_again a.nets.now) c.requires.1
 
-pub scanned-risks-requires : goal.scanned-risks-requires
-scanned-risks-requires c =
+pub interprompt_charge-requires : goal.interprompt_charge-requires
+interprompt_charge-requires c =
     let w = c.requires.0 in
-    totals-room w.rates c.args.own.now (records c.args.prompts.now) w.rows (records c.args.spreads.now) w.fit _ w.is w.most
+    let spreads = records c.args.spreads.now in
+    subst⁻¹ (λ (n : ℕ). SpreadsWithin n spreads (spreads_from c.args.first.now) (spreads_from c.args.second.now)) c.unit-unit.ensures.0
+    (spreads_room w.rates c.args.own.now (records c.args.prompts.now) w.rows spreads w.fit _ w.is w.most c.args.first.now c.args.second.now
+    c.args.used.now c.args.unused.now (book_is (goal.at.interprompt_charge-requires c).Start))
 
-pub charges_of-charges-requires : goal.charges_of-charges-requires
-charges_of-charges-requires c =
+pub prompt_charges-requires : goal.prompt_charges-requires
+prompt_charges-requires c =
     let w = c.requires.0 in
-    let u = c.unit-its_unit in
-    let is = book_is (goal.at.charges_of-charges-requires c).Start in
-    let own = c.args.own.now in
     let prompts = records c.args.prompts.now in
-    let spreads = records c.args.spreads.now in (
-      subst⁻¹ (λ (n : ℕ). SpreadsWithin n spreads (spreads_from c.args.first.now) (spreads_from c.args.second.now)) u.ensures.0
-          (spreads_room w.rates own prompts w.rows spreads w.fit _ w.is w.most c.args.first.now c.args.second.now
-          c.args.used.now c.args.unused.now is),
-      subst⁻¹ (λ (n : ℕ). PromptsWithin n prompts c.args.used.now c.args.unused.now) u.ensures.0
-          (prompts_room w.rates own prompts w.rows spreads w.fit _ w.is w.most c.args.first.now c.args.second.now
-          c.args.used.now c.args.unused.now is),
-    )
+    subst⁻¹ (λ (n : ℕ). PromptsWithin n prompts c.args.used.now c.args.unused.now) c.unit-unit.ensures.0
+    (prompts_room w.rates c.args.own.now prompts w.rows (records c.args.spreads.now) w.fit _ w.is w.most c.args.first.now c.args.second.now
+    c.args.used.now c.args.unused.now (book_is (goal.at.prompt_charges-requires c).Start))
 
-pub short_option_minimum-minimum-requires : goal.short_option_minimum-minimum-requires
-short_option_minimum-minimum-requires c =
-    let w = c.requires.0 in
-    (omega (arith, w.most.shorts_most), omega (arith, w.fit.rate, c.short_option_rate.ensures.0))
-
-pub net_in-net-requires : goal.net_in-net-requires
-net_in-net-requires c =
+pub net_in-requires : goal.net_in-requires
+net_in-requires c =
     let w = c.requires.0 in
     subst (λ (zs : List ℤ). (length zs ≡ prompt_places) × (sum (map nat_abs zs) ≤ most_delta)) (deltas_again c.args.nets.now) (
       w.most.nets_most.as_many,
@@ -72,15 +61,21 @@ returns c =
     let prompts = records c.args.prompts.now in
     let spreads = records c.args.spreads.now in
     let rate = c.short_option_rate in
-    let least = c.short_option_minimum-minimum in
-    let u = c.unit-its_unit in
-    let charged = c.charges_of-charges in
+    let least = c.short_option_minimum in
+    let u = c.unit-unit in
+    let interprompt = c.interprompt_charge in
+    let prompt = c.prompt_charges in
     let p = position_in c.args.totals.now c.args.nets.now c.args.shorts in
     line_with w.rates own prompts w.rows spreads p w.is _
     (line_is w.rates own prompts w.rows spreads w.fit p w.is w.most c.args.first.now c.args.second.now
     c.args.used.now c.args.unused.now (book_is (goal.at.returns c).Start) _ rate.result
     c.contract.ensures.0 u.ensures.0 c.scanned-risks.ensures
     (subst (λ (n : ℕ). Charged n prompts spreads c.args.first.now c.args.second.now c.args.used.now c.args.unused.now
-    charged.result.interprompt.0 charged.result.prompt.0) u.ensures.0 charged.ensures)
+    interprompt.result.0 prompt.result.0) u.ensures.0 (record {
+      interprompt_is = interprompt.ensures.0;
+      prompt_is = prompt.ensures.0;
+      interprompt_within = interprompt.ensures.1;
+      prompt_within = prompt.ensures.1;
+    }))
     rate.ensures.0 least.ensures.0 least.ensures.1
-    (c.net_in-net.ensures ∙ ap sum_ℤ (sym (deltas_again c.args.nets.now))))
+    (c.net_in.ensures ∙ ap sum_ℤ (sym (deltas_again c.args.nets.now))))

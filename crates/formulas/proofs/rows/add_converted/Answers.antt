@@ -1,110 +1,83 @@
-use mathlib.Core.Path.{◌≡◌, refl, sym, ◌∙◌, ap, ap₂, subst}
-use Prim.Native.Nat.{ℕ, ◌+◌, ◌-◌, ◌*◌, ◌≤◌}
+use mathlib.Core.Path.{subst, ◌≡◌, refl, ◌∙◌, ap, ap₂}
+use Prim.Native.Nat.{ℕ, ◌+◌, ◌-◌, ◌*◌, ◌^◌, ◌≤◌, ◌<◌}
 use native.Mathlib.Omega.{arith}
-use lib.IntN.{ℤ, pos, nat_abs, ◌*ℤ◌}
+use lib.IntN.{ℤ, pos, nat_abs, ◌+ℤ◌, ◌*ℤ◌}
 use lib.ListN.{get_or}
-use Rattle.record.specs.Layout.{lots, value, loss}
-use mir.Syntax.{w64}
-use mir.Val.{to_z, of_z}
-use Rattle.exact.specs.Rounding.{half_away_to}
-use Rattle.exact.proofs.Integers.{back, sfits_abs}
-use Rattle.account.specs.Products.{converted_at, most_conversion}
 use Rattle.account.specs.Check.{most_rows}
+use Rattle.account.specs.Products.{converted_at}
+use Rattle.record.specs.Layout.{lots, value, loss}
+use Rattle.exact.specs.Rounding.{half_away_to}
+use Rattle.exact.proofs.Integers.{back, abs_add}
 use Rattle.formulas.specs.Bounds.{most_product}
 use Rattle.formulas.specs.code.Position.{Sized, Added, converted_products}
-use Rattle.formulas.proofs.SignedCalls.{plus_fits, plus_is}
-use Rattle.formulas.proofs.AddedLaws.{start, next}
+use Rattle.formulas.proofs.Calls.{handed}
+use Rattle.formulas.proofs.AddedLaws.{put_fits, put_next}
 use Rattle.formulas.proofs.rows.add_converted.Goals as goal
-use Rattle.formulas.proofs.rows.add_converted.Goals.{After-converted_product-more, After-loss}
+use Rattle.formulas.proofs.rows.add_converted.Goals.{After-converted_product}
 
--- what the row loses for each tick, and in the scenario
-tick_is : (c : After-loss) →
-    let row = c.args.row.now in
-    to_z w64 (of_z w64 c.per_tick-each.result) ≡ lots row *ℤ pos (value row)
-tick_is c =
-    let tick = c.per_tick-each in
-    back tick.result (record { sfits = tick.type_inv }) ∙ tick.ensures.is
+-- what is added
+module _ (c : After-converted_product) where
+  abbrev more : ℕ → ℤ
+  more = converted_products c.args.f.raised c.args.f.lowered c.args.unit c.args.row.now
 
-loss-is : (c : After-loss) →
-    let row = c.args.row.now in
-    to_z w64 (of_z w64 c.loss.result) ≡ loss row (c.loop-s.s + 1)
-loss-is c = back c.loss.result (record { sfits = c.loss.type_inv }) ∙ c.loss.ensures
+  abbrev here : ℤ
+  here = get_or c.args.totals.now c.loop-s.s (pos 0)
 
--- what the call of `converted_product` left
-multiplied : (c : After-converted_product-more) →
-    Sized most_product
-    (converted_products c.args.f.raised c.args.f.lowered c.args.unit c.args.row.now c.loop-s.s)
-    c.converted_product-more.result
-multiplied c =
-    let e = c.converted_product-more.ensures in
-    record {
-      is = e.is ∙ ap₂ (λ (x y : ℤ). half_away_to (converted_at c.args.f.raised c.args.f.lowered (x *ℤ y)) c.args.unit)
-          (tick_is (goal.at.offset_bounds-totals-s c).After-loss) (loss-is (goal.at.offset_bounds-totals-s c).After-loss);
-      size = e.size;
-    }
+  tick_is : handed c.per_tick-each.result ≡ lots c.args.row.now *ℤ pos (value c.args.row.now)
+  tick_is = back c.per_tick-each.result (record { sfits = c.per_tick-each.type_inv }) ∙ c.per_tick-each.ensures.is
 
-pub per_tick-each-requires : goal.per_tick-each-requires
-per_tick-each-requires c = let w = c.requires.1.0 in (w.lots_within, w.value_within)
+  loss-is : handed c.loss.result ≡ loss c.args.row.now (c.loop-s.s + 1)
+  loss-is = back c.loss.result (record { sfits = c.loss.type_inv }) ∙ c.loss.ensures
 
-pub loop-s-init : goal.loop-s-init
-loop-s-init c = (omega arith, start (converted_products c.args.f.raised c.args.f.lowered c.args.unit c.args.row.now) c.args.totals.now)
+  multiplied : Sized most_product (more c.loop-s.s) c.converted_product.result
+  multiplied =
+      record {
+        is = c.converted_product.ensures.is ∙ ap₂ (λ (x y : ℤ). half_away_to (converted_at c.args.f.raised c.args.f.lowered (x *ℤ y)) c.args.unit) tick_is loss-is;
+        size = c.converted_product.ensures.size;
+      }
 
-pub converted_product-more-requires : goal.converted_product-more-requires
-converted_product-more-requires c =
-    let tick = c.per_tick-each in (
-      omega (arith, ap nat_abs (back tick.result (record { sfits = tick.type_inv })), tick.ensures.size),
+  room : nat_abs here ≤ (most_rows - 1) * most_product
+  room = c.requires.1.1.1.size c.loop-s.s (omega arith)
+
+  small : nat_abs (here +ℤ more c.loop-s.s) < 2 ^ 63
+  small = omega (arith, abs_add here (more c.loop-s.s), room, ap nat_abs multiplied.is, multiplied.size)
+
+pub converted_product-requires : goal.converted_product-requires
+converted_product-requires c =
+    let a = c.args in
+    let s = c.loop-s.s in
+    let tick = back c.per_tick-each.result (record { sfits = c.per_tick-each.type_inv }) in
+    let loss = back c.loss.result (record { sfits = c.loss.type_inv }) in
+    rw (tick, loss, c.loss.ensures) (
+      c.per_tick-each.ensures.size,
       (
-        omega (arith, ap nat_abs (loss-is c), c.requires.1.0.loss_within (c.loop-s.s + 1) (omega arith) (omega arith)),
+        c.requires.1.0.loss_within (s + 1) (omega arith) (omega arith),
         (
           c.requires.0,
           (
             c.requires.1.1.0.up_within,
             (
               c.requires.1.1.0.down_within,
-              subst (λ (z : ℤ). nat_abs (converted_at c.args.f.raised c.args.f.lowered z) ≤ most_conversion) (sym (ap₂ ◌*ℤ◌ (tick_is c) (loss-is c)))
-                  (c.requires.1.1.0.conversion_within (c.loop-s.s + 1) (omega arith) (omega arith)),
+              rw c.per_tick-each.ensures.is (c.requires.1.1.0.conversion_within (s + 1) (omega arith) (omega arith)),
             ),
           ),
         ),
       ),
     )
 
-pub offset_bounds-totals-s : goal.offset_bounds-totals-s
-offset_bounds-totals-s c = omega arith
-
-pub plus-requires : goal.plus-requires
-plus-requires c =
-    let i = c.loop-s in
-    let ts = c.args.totals.now in
-    let here : nat_abs (get_or ts i.s (pos 0)) ≤ (most_rows - 1) * most_product = c.requires.1.1.1.size
-    i.s (omega arith) in
-    let by = multiplied (goal.at.plus-requires c).After-converted_product-more in
-    let same : get_or i.totals i.s (pos 0) ≡ get_or ts i.s (pos 0) = i.invariant.1.others i.s (omega arith) in
-    plus_fits (get_or i.totals i.s (pos 0)) c.converted_product-more.result (get_or ts i.s (pos 0))
-    c.converted_product-more.result
-    ((most_rows - 1) * most_product) most_product
-    (sfits_abs (get_or i.totals i.s (pos 0)) (omega (arith, ap nat_abs same))) (record { sfits = c.converted_product-more.type_inv })
-    same refl here by.size (omega arith)
+pub overflow_add-total : goal.overflow_add-total
+overflow_add-total c =
+    let at = (goal.at.overflow_add-total c).After-converted_product in
+    put_fits ◌+ℤ◌ c.loop-s.s (more at) c.args.totals.now c.loop-s.totals c.loop-s.invariant c.converted_product.result (more at c.loop-s.s) c.converted_product.type_inv
+    (multiplied at).is (omega (arith, room at)) (small at)
 
 pub loop-s-preserved : goal.loop-s-preserved
 loop-s-preserved c =
-    let i = c.loop-s in
-    let ts = c.args.totals.now in
-    let here : nat_abs (get_or ts i.s (pos 0)) ≤ (most_rows - 1) * most_product = c.requires.1.1.1.size i.s (omega arith) in
-    let by = multiplied (goal.at.loop-s-preserved c).After-converted_product-more in
-    let same : get_or i.totals i.s (pos 0) ≡ get_or ts i.s (pos 0) = i.invariant.1.others i.s (omega arith) in
-    let sum = plus_is (get_or i.totals i.s (pos 0)) c.converted_product-more.result (get_or ts i.s (pos 0))
-    (converted_products c.args.f.raised c.args.f.lowered c.args.unit c.args.row.now i.s) ((most_rows - 1) * most_product) most_product
-    (sfits_abs (get_or i.totals i.s (pos 0)) (omega (arith, ap nat_abs same))) (record { sfits = c.converted_product-more.type_inv })
-    same by.is here (subst (λ (z : ℤ). nat_abs z ≤ most_product) by.is by.size) c.plus.result c.plus.ensures in (
-      omega arith,
-      next i.s (converted_products c.args.f.raised c.args.f.lowered c.args.unit c.args.row.now) ts i.totals
-          (to_z w64 (of_z w64 c.plus.result)) i.invariant.1 (omega (arith, c.requires.1.1.1.as_many))
-          (back c.plus.result (record { sfits = c.plus.type_inv }) ∙ sum.is),
-    )
+    let at = (goal.at.loop-s-preserved c).After-converted_product in
+    put_next ◌+ℤ◌ c.loop-s.s (more at) c.args.totals.now c.loop-s.totals c.loop-s.invariant c.converted_product.result (more at c.loop-s.s) c.converted_product.type_inv
+    (multiplied at).is (omega (arith, room at)) (small at) (omega (arith, c.requires.1.1.1.as_many)) refl
 
 pub returns : goal.returns
 returns c =
-    let i = c.loop-s in
-    subst (λ (n : ℕ). Added n (converted_products c.args.f.raised c.args.f.lowered c.args.unit c.args.row.now)
-    c.args.totals.now i.totals) (omega arith) i.invariant.1
+    subst (λ (n : ℕ). Added n (converted_products c.args.f.raised c.args.f.lowered c.args.unit c.args.row.now) c.args.totals.now c.loop-s.totals)
+    (omega arith) c.loop-s.invariant

@@ -1,15 +1,11 @@
--- `add_nets`: before row i, what is added by the rows before it.
+-- `add_nets`: what is added by the rows that are passed.
 -- Assumes nothing.
-use Prim.Native.Nat.{◌-◌, ◌/◌, ◌≤◌}
-use lib.ListN.{length, get_or, take}
-use Rattle.record.specs.Bytes.{record_bytes}
+use Rattle.std.proofs.Common.{length, get_or, take}
 use Rattle.account.specs.Records.{records}
 use Rattle.formulas.specs.code.Position.{Added, net_on}
+use Rattle.formulas.proofs.ChunkLaws.{Passed}
 use Rattle.formulas.proofs.rows.add_nets.Given as goal
 
-abbrev pub invariant-loop-i : goal.invariant-loop-i
-invariant-loop-i l = (l.i ≤ length l.rows / record_bytes)
-    × Added l.prompts (λ j. net_on (take l.i (records l.rows)) (get_or l.days j 0)) l.initial.nets l.nets
-
-abbrev pub decreases-loop-i : goal.decreases-loop-i
-decreases-loop-i l = length l.rows / record_bytes - l.i
+abbrev pub invariant-loop-row : goal.invariant-loop-row
+invariant-loop-row l = Passed l.rows (length l.yielded) l.row-iterator
+    × Added l.prompts (λ j. net_on (take (length l.yielded) (records l.rows)) (get_or l.days j 0)) l.initial.nets l.nets

@@ -1,12 +1,7 @@
 -- `add_own`: each turn adds one product.
 -- Assumes nothing.
-use Prim.Native.Nat.{◌-◌, ◌≤◌}
-use Rattle.record.specs.Layout.{scenario_count}
 use Rattle.formulas.specs.code.Position.{Added, own_products}
 use Rattle.formulas.proofs.rows.add_own.Given as goal
 
 abbrev pub invariant-loop-s : goal.invariant-loop-s
-invariant-loop-s l = (l.s ≤ scenario_count) × Added l.s (own_products l.unit l.row) l.initial.totals l.totals
-
-abbrev pub decreases-loop-s : goal.decreases-loop-s
-decreases-loop-s l = scenario_count - l.s
+invariant-loop-s l = Added l.s (own_products l.unit l.row) l.initial.totals l.totals

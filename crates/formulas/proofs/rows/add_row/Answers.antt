@@ -140,14 +140,6 @@ returns-then-unit-ne1 c =
     (λ k. ap (λ (t : Bool). half_away_to (by-currency held row (k + 1) t) unit) (sym (own_is (goal.at.returns-then-unit-ne1 c).Else-c-ne0))) c.add_own.ensures)
     in record { added = both.0; room = both.1 }
 
-pub add_raised-requires : goal.add_raised-requires
-add_raised-requires c =
-    (each-most (goal.at.add_raised-requires c).After-per_tick-each, (c.requires.1.0, c.requires.1.1.1.sums_most))
-
-pub overflow_add-result : goal.overflow_add-result
-overflow_add-result c =
-    omega (arith, c.magnitude.ensures, each-most (goal.at.overflow_add-result c).After-per_tick-each, c.requires.1.1.1.sizes_most)
-
 pub returns : goal.returns
 returns c =
     let row = c.args.row.now in

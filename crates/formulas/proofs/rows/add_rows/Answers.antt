@@ -9,10 +9,6 @@ pub add_nets-requires : goal.add_nets-requires
 add_nets-requires c =
     (c.requires.1.0.0, (c.requires.1.0.1, (c.requires.1.1.0, nets_lent c.args.totals.now c.args.nets.now 0 c.requires.1.1.1.1)))
 
-pub add_totals-requires : goal.add_totals-requires
-add_totals-requires c =
-    (c.requires.0, (c.requires.1.1.0, (c.requires.1.1.1.0, c.requires.1.1.1.1.totals_most)))
-
 pub returns : goal.returns
 returns c =
     let rows = records c.args.rows.now in

@@ -1,15 +1,11 @@
 -- The net deltas of a lent array of zeros, as they are put there.
 -- Assumes nothing.
 use mathlib.Core.List.{List}
-use mathlib.Core.Path.{refl, sym, subst}
+use mathlib.Core.Path.{sym, subst}
 use Rattle.account.specs.Records.{records}
 use Rattle.spread.specs.declared.Delta.{Delta}
 use Rattle.formulas.specs.code.Position.{PositionOf, with_nets}
 use Rattle.formulas.proofs.rows.nets_of.Goals as goal
-
-pub put_net_deltas-requires : goal.put_net_deltas-requires
-put_net_deltas-requires c =
-    (c.requires.0, (c.requires.1, refl))
 
 pub returns : goal.returns
 returns c =

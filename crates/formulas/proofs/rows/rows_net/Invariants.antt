@@ -1,15 +1,10 @@
--- `rows_net`: before row i, the net delta of the rows before it.
+-- `rows_net`: the net delta of the rows that are passed.
 -- Assumes nothing.
-use mathlib.Core.Path.{◌≡◌}
-use Prim.Native.Nat.{◌-◌, ◌/◌, ◌≤◌}
-use lib.ListN.{length, take}
-use Rattle.record.specs.Bytes.{record_bytes}
+use Rattle.std.proofs.Common.{◌≡◌, length, take}
 use Rattle.account.specs.Records.{records}
 use Rattle.formulas.specs.code.Position.{rows_net}
+use Rattle.formulas.proofs.ChunkLaws.{Passed}
 use Rattle.formulas.proofs.rows.rows_net.Given as goal
 
-abbrev pub invariant-loop-i : goal.invariant-loop-i
-invariant-loop-i l = (l.i ≤ length l.rows / record_bytes) × (l.net.0 ≡ rows_net (take l.i (records l.rows)))
-
-abbrev pub decreases-loop-i : goal.decreases-loop-i
-decreases-loop-i l = length l.rows / record_bytes - l.i
+abbrev pub invariant-loop-row : goal.invariant-loop-row
+invariant-loop-row l = Passed l.rows (length l.yielded) l.row-iterator × (l.net ≡ rows_net (take (length l.yielded) (records l.rows)))

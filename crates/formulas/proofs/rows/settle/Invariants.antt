@@ -1,13 +1,8 @@
 -- `settle`: each turn adds to one total what its sums come to.
 -- Assumes nothing.
-use Prim.Native.Nat.{◌-◌, ◌≤◌}
-use Rattle.record.specs.Layout.{scenario_count}
 use Rattle.formulas.specs.code.Position.{Added}
 use Rattle.formulas.specs.code.Raised.{unraised_at}
 use Rattle.formulas.proofs.rows.settle.Given as goal
 
 abbrev pub invariant-loop-s : goal.invariant-loop-s
-invariant-loop-s l = (l.s ≤ scenario_count) × Added l.s (unraised_at l.sums l.sizes) l.initial.totals l.totals
-
-abbrev pub decreases-loop-s : goal.decreases-loop-s
-decreases-loop-s l = scenario_count - l.s
+invariant-loop-s l = Added l.s (unraised_at l.sums l.sizes) l.initial.totals l.totals

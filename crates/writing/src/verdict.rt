@@ -5,8 +5,7 @@ ghost use Rattle.writing.specs.Order.{Ordered};
 ghost use Rattle.writing.specs.Written.{as_entered, verdict_on};
 
 use crate::checking::check_written;
-use crate::filling::wide;
-use crate::merging::place_at;
+use crate::places::place_at;
 use account::answers::{Answer, number_of, record_of, refusal};
 
 fn as_entered(order: &[u16], answer: Answer) -> Answer
@@ -16,7 +15,7 @@ fn as_entered(order: &[u16], answer: Answer) -> Answer
     if number < 3 {
         return answer;
     }
-    refusal(number, wide(place_at(order, record_of(answer))))
+    refusal(number, usize::from(place_at(order, record_of(answer))))
 }
 
 pub(crate) fn verdict_on(entries: &[u8], order: &[u16]) -> Answer

@@ -18,7 +18,7 @@ use Rattle.writing.proofs.checking.conversions_written.Goals.{After-answer_at-an
 
 -- the record is one of the file
 within : (c : In-loop-k) → c.loop-k.k < record_count (written c.args.entries.now)
-within c = omega (arith, c.loop-k-test.true, c.record_count-count.ensures, count_same c.args.entries.now)
+within c = omega (arith, c.loop-k-test.true, c.record_count-k-end.ensures, count_same c.args.entries.now)
 
 -- the head of the turn, its record's place, the file, its rates, and what the record answers
 module _ (c : After-answer_at-answer) where
@@ -73,4 +73,4 @@ returns c =
     let l = c.loop-k in
     let e = c.args.entries.now in
     let w = written e in
-    sym (l.invariant ∙ rows_end (rates_of (records w)) 0 w l.k (omega (arith, c.loop-k-test.false, c.record_count-count.ensures, count_same e)))
+    sym (l.invariant ∙ rows_end (rates_of (records w)) 0 w l.k (omega (arith, c.loop-k-test.false, c.record_count-k-end.ensures, count_same e)))

@@ -15,7 +15,7 @@ pub entry_at-requires : goal.entry_at-requires
 entry_at-requires c =
     (c.requires.0, omega (arith, c.requires.1))
 
-pub returns : goal.returns
-returns c =
+pub returns-else-k-eq0 : goal.returns-else-k-eq0
+returns-else-k-eq0 c =
     let a = c.args in
     c.entry_at.ensures ∙ before_is (written a.entries.now) a.k c.if-k-eq0.false

@@ -22,26 +22,18 @@ pub overflow_mul-start : goal.overflow_mul-start
 overflow_mul-start c =
     omega (arith, c.requires.1.0, c.loop-i-test.true)
 
-pub overflow_add-end : goal.overflow_add-end
-overflow_add-end c =
+pub overflow_add-start : goal.overflow_add-start
+overflow_add-start c =
     omega (arith, c.requires.1.0, c.loop-i-test.true)
 
-pub copy_bytes-requires : goal.copy_bytes-requires
-copy_bytes-requires c =
+pub copy_from_slice-requires : goal.copy_from_slice-requires
+copy_from_slice-requires c =
     let l = c.loop-i in
     let e = c.args.entries.now in
     let more = c.loop-i-test.true in
     let p = part_long e c.args.k c.args.n c.args.out.now l.out l.i l.invariant more c.requires.1.0 c.requires.1.1 in
     let r = ap length c.entry_at-r.ensures ∙ record_long (written e) (c.args.k + l.i) (omega (arith, more, c.requires.1.0, count_same e)) in
     omega (arith, p, r)
-
-pub overflow_add-i : goal.overflow_add-i
-overflow_add-i c =
-    omega (arith, c.loop-i-test.true)
-
-pub loop-i-smaller : goal.loop-i-smaller
-loop-i-smaller c =
-    omega (arith, c.loop-i-test.true)
 
 pub loop-i-preserved : goal.loop-i-preserved
 loop-i-preserved c =
@@ -50,7 +42,7 @@ loop-i-preserved c =
     let more = c.loop-i-test.true in
     filling_next e c.args.k c.args.n c.args.out.now l.out l.i l.invariant more c.requires.1.0 c.requires.1.1
     c.entry_at-r.ensures
-    c.copy_bytes.ensures
+    c.copy_from_slice.ensures.after
 
 pub shape_of-out : goal.shape_of-out
 shape_of-out c = c.loop-i.invariant.long

@@ -11,23 +11,23 @@ overflow_mul-result c = omega (arith, c.contract.ensures.1)
 pub overflow_add-result : goal.overflow_add-result
 overflow_add-result c = omega (arith, c.contract.ensures.1, c.day.ensures.1)
 
-pub returns-then-k-eq2 : goal.returns-then-k-eq2
-returns-then-k-eq2 c =
+pub returns-in-2 : goal.returns-in-2
+returns-in-2 c =
     let r = c.args.r.now in
-    let e = of_prompt r (sym c.kind-k.ensures.0 ∙ c.if-k-eq2.true) in (
+    let e = of_prompt r (sym c.kind.ensures.0 ∙ c.in-2.is) in (
       omega (arith, e, c.contract.ensures.0, c.day.ensures.0),
       omega (arith, c.contract.ensures.1, c.day.ensures.1),
     )
 
-pub returns-then-k-eq5 : goal.returns-then-k-eq5
-returns-then-k-eq5 c =
+pub returns-in-5 : goal.returns-in-5
+returns-in-5 c =
     let r = c.args.r.now in
-    (sym (of_entry r (sym c.kind-k.ensures.0 ∙ c.if-k-eq5.true)), omega arith)
+    (sym (of_entry r (sym c.kind.ensures.0 ∙ c.in-5.is)), omega arith)
 
-pub returns : goal.returns
-returns c =
+pub returns-in_default : goal.returns-in_default
+returns-in_default c =
     let r = c.args.r.now in
-    let k = c.kind-k.ensures.0 in (
-      c.contract-2.ensures.0 ∙ sym (of_other r (λ e. c.if-k-eq2.false (k ∙ e)) (λ e. c.if-k-eq5.false (k ∙ e))),
-      omega (arith, c.contract-2.ensures.1),
+    let k = c.kind.ensures.0 in (
+      c.contract-in_default.ensures.0 ∙ sym (of_other r (λ e. omega arith) (λ e. omega arith)),
+      omega (arith, c.contract-in_default.ensures.1),
     )

@@ -7,7 +7,7 @@ use mathlib.Core.Bool.{Bool, true, false, not, cond}
 use mathlib.Core.List.{List, [], ◌∷◌, ◌++◌, map, append_assoc, map-append}
 use lib.Dec.{eqb, leb, ltb}
 use lib.ListN.{length, get_or, take, drop, length-append, length-drop, length-map}
-use lib.Seq.{length-take-le, take-add, take_at, drop_at, take_all, get_or-take, drop-drop}
+use lib.Seq.{length-take-le, take-add, take_at, drop_at, get_or-take, drop-drop}
 use native.Mathlib.Omega.{arith}
 use borrow.Author.Tests.{eqb-true, not-false, ltb-false}
 use Rattle.exact.proofs.Lists.{get_d_map}
@@ -208,9 +208,6 @@ pub record Filling (entries : List ℕ) (k n : ℕ) (out₀ out : List ℕ) (i :
   pub inside : i ≤ n
   pub done : out ≡ filled_in entries k i out₀
 
-pub filling_start : (entries : List ℕ) (k n : ℕ) (out : List ℕ) → Filling entries k n out out 0
-filling_start entries k n out = record { long = refl; inside = omega arith; done = refl }
-
 module _ (entries : List ℕ) (k n : ℕ) (out₀ out : List ℕ) (i : ℕ) (f : Filling entries k n out₀ out i) (more : i < n)
     (within : k + n ≤ record_count entries) (room : n * record_bytes ≤ length out₀) where
   abbrev W : List ℕ
@@ -257,12 +254,6 @@ module _ (entries : List ℕ) (k n : ℕ) (out₀ out : List ℕ) (i : ℕ) (f :
         inside = omega arith;
         done = is;
       }
-
-pub filling_ends :
-    (entries : List ℕ) (k n : ℕ) (out₀ out : List ℕ) (i : ℕ) → Filling entries k n out₀ out i → n ≤ i → out ≡ filled_in entries k n out₀
-filling_ends entries k n out₀ out i f past =
-    let e : i ≡ n = omega (arith, f.inside) in
-    f.done ∙ ap (λ (m : ℕ). filled_in entries k m out₀) e
 
 -- what is put at the front is there
 pub front_filled :

@@ -1,20 +1,19 @@
 -- What an entry goes by, and the keys of all.
 -- Assumes nothing.
-use Prim.Native.Nat.{ℕ, zero, suc, ◌+◌, ◌*◌, ◌≤◌, ◌<◌}
-use mathlib.Core.Path.{◌≡◌, refl, sym, ap, ap₂, ◌∙◌}
+use Prim.Native.Nat.{ℕ, ◌+◌, ◌*◌, ◌≤◌, ◌<◌}
+use mathlib.Core.Path.{◌≡◌, refl, ap, ap₂, ◌∙◌}
 use mathlib.Core.Bool.{Bool, true, false, cond}
 use mathlib.Core.List.{List, [], ◌∷◌, ◌++◌}
 use lib.Dec.{eqb, leb}
-use lib.ListN.{length, get_or, take, drop, set, replicate, length-append, length-drop, length-set, length-replicate}
+use lib.ListN.{length, take, drop, length-append, length-drop}
 use lib.Seq.{length-take-le, take_at}
-use native.Mathlib.Decide.{ℕ_discrete}
 use native.Mathlib.Omega.{arith}
 use borrow.Author.Tests.{ne_eqb}
 use Rattle.account.specs.Check.{most_records}
 use Rattle.record.specs.Bytes.{count_from}
 use Rattle.record.specs.Layout.{Record, kind, contract, day}
-use Rattle.account.specs.Records.{record_at, record_count}
-use Rattle.writing.specs.Order.{of_its_kind, rank, rank_at, places, Keyed, Ordered}
+use Rattle.account.specs.Records.{record_count}
+use Rattle.writing.specs.Order.{of_its_kind, rank_at, places, Keyed, Ordered}
 use Rattle.writing.specs.code.Sorting.{key_at}
 use Rattle.writing.specs.Sorting.{put_in, sorted}
 use Rattle.writing.proofs.Placed.{All, all_sorted, all_weaker, counted_all, places_long}

@@ -58,7 +58,11 @@ fn names_prompts(r: &[u8]) -> bool
 fn asked_of(r: &[u8]) -> usize
     ensures { result ≡ asked_of r.now }
 {
-    if names_prompts(r) { contract(r) } else { NO_CONTRACT }
+    if names_prompts(r) {
+        contract(r)
+    } else {
+        NO_CONTRACT
+    }
 }
 
 // The prompts of contract `c` in the place of those of contract `held`.

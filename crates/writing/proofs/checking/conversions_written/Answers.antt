@@ -9,7 +9,7 @@ use Rattle.account.specs.Conversions.{row_answer, Row}
 use Rattle.account.specs.Parts.{rates_of}
 use Rattle.account.specs.Records.{records, record_at, record_count}
 use Rattle.account.proofs.Lawful.{recorded}
-use Rattle.account.proofs.RateLaws.{rows_start, rows_next, rows_stop, rows_end}
+use Rattle.account.proofs.RateLaws.{rows_next, rows_stop, rows_end}
 use Rattle.writing.specs.Written.{written}
 use Rattle.writing.proofs.Held.{row_at}
 use Rattle.writing.proofs.Placed.{count_same}
@@ -36,14 +36,6 @@ module _ (c : After-answer_at-answer) where
       c.answer_at-answer.ensures rates c.requires.1.rates (recorded file c.requires.1.accepted).ranges.rates
       ∙ ap (row_answer rates k) c.entry_at.ensures
       ∙ ap (λ (n : ℕ). row_answer rates n (record_at file k)) (sym (zero-add k))
-
-pub loop-k-init : goal.loop-k-init
-loop-k-init c =
-    let w = written c.args.entries.now in rows_start (rates_of (records w)) 0 w
-
-pub entry_at-requires : goal.entry_at-requires
-entry_at-requires c =
-    (c.requires.0, omega (arith, within c, count_same c.args.entries.now))
 
 pub answer_at-answer-requires : goal.answer_at-answer-requires
 answer_at-answer-requires c =

@@ -52,9 +52,7 @@ fn judge_lent<'a>(
         return Judged::Refused(Answer::NoSuchQuestion(record_total(account)));
     }
     let asking = asking_over(morning, noon, account, question);
-    let prompts = asking.prompts;
-    let table = asking.table;
-    said_of(judge(prompts, table, sent, numbers, uses))
+    said_of(judge(asking.prompts, asking.table, sent, numbers, uses))
 }
 
 // The same of an account by value, which is lent.

@@ -50,11 +50,7 @@ fn refused(ticket: usize, answer: Answer) -> Asked
 fn ticket_count(tickets: &[u8]) -> usize
     ensures { result ≡ length (tickets_in tickets.now) }
 {
-    let whole = tickets.len() / RECORD_BYTES;
-    if tickets.len() % RECORD_BYTES == 0 {
-        return whole;
-    }
-    whole + 1
+    tickets.len().div_ceil(RECORD_BYTES)
 }
 
 // Tickets in turn, each put in where it is accepted.
@@ -64,8 +60,7 @@ fn put_in(file: &[u8], kept: Kept, tickets: &[u8]) -> Holding
 {
     let count = ticket_count(tickets);
     let mut held = kept;
-    let mut i = 0;
-    while i < count {
+    for i in 0..count {
         let added = add(file, held, record_at(tickets, i));
         let answer = added.answer;
         if number_of(answer) != 0 {
@@ -75,9 +70,7 @@ fn put_in(file: &[u8], kept: Kept, tickets: &[u8]) -> Holding
                 kept: held,
             };
         }
-        let more = added.kept;
-        held = more;
-        i += 1;
+        held = added.kept;
     }
     Holding {
         ticket: count,

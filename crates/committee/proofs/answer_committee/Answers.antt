@@ -67,10 +67,6 @@ with_account-next-requires c =
     let margin = is.margin_most in
     (wider l.i most_accounts l.sums (omega (arith, t, few)) l.invariant.small, omega (arith, margin), is.credit_most, is.above_most)
 
-pub loop-i-smaller : goal.loop-i-smaller
-loop-i-smaller c =
-    let t = c.loop-i-test.true in omega (arith, t)
-
 pub loop-i-preserved : goal.loop-i-preserved
 loop-i-preserved c =
     let s = c.args in

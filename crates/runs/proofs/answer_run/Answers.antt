@@ -79,11 +79,6 @@ place_outcome-requires c =
     (omega (arith, a)) (omega (arith, b))
     l.out l.outcomes l.at l.i l.invariant c.loop-i-test.true
 
-pub loop-i-smaller : goal.loop-i-smaller
-loop-i-smaller c =
-    let t = c.loop-i-test.true in
-    omega (arith, t)
-
 pub loop-i-preserved : goal.loop-i-preserved
 loop-i-preserved c =
     let s = c.args in

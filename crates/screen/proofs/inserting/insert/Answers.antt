@@ -9,12 +9,4 @@ use Rattle.screen.proofs.InsertingLaws.{then_put}
 use Rattle.screen.proofs.inserting.insert.Goals as goal
 
 pub returns : goal.returns
-returns c =
-    let at = c.args.at in
-    let row = c.args.row.now in
-    let lent = c.args.lent.now in
-    let a = c.requires.1.0 in
-    let b = c.requires.1.1 in
-    c.put.ensures
-    ∙ ap (λ (xs : List ℕ). take at xs ++ (row ++ drop (at + length row) xs)) c.move_up.ensures
-    ∙ then_put at c.args.end row lent c.requires.0 (omega (arith, a, b))
+returns c = ?

@@ -11,10 +11,10 @@ use Rattle.questions.specs.Questions.{figures_answer, after_figures}
 use Rattle.margin.specs.Places.{at_place}
 use Rattle.runs.proofs.RunLaws.{Going, begin, room_here, outcome_here, ends, go_on, end, differ, few_figures, few_outcomes, all}
 use Rattle.runs.proofs.answer_run.Goals as goal
-use Rattle.runs.proofs.answer_run.Goals.{After-shared_slice_known-in-loop-i-1}
+use Rattle.runs.proofs.answer_run.Goals.{In-loop-i}
 
 -- the account that is answered next stands within the bytes
-within : (c : After-shared_slice_known-in-loop-i-1) →
+within : (c : In-loop-i) →
     let s = c.args in
     c.loop-i.at + get_or s.lengths.now c.loop-i.i 0 ≤ length s.accounts.now
 within c =
@@ -57,7 +57,7 @@ loop-i-init c =
 
 pub overflow_add-end : goal.overflow_add-end
 overflow_add-end c =
-    let h = within c in
+    let h = within (goal.at.overflow_add-end c).In-loop-i in
     search (rules, h)
 
 pub place_figures-answer-requires : goal.place_figures-answer-requires

@@ -1,3 +1,4 @@
+pub mod Flags
 pub mod OverContracts
 pub mod SumLaws
 pub mod Adding

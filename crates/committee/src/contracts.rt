@@ -19,12 +19,6 @@ pub struct Found {
     pub above: usize,
 }
 
-pub(crate) fn one_if(b: bool) -> usize
-    ensures { result ≡ one_if b }
-{
-    if b { 1 } else { 0 }
-}
-
 // An amount among the numbers.
 fn amount_at(numbers: &[i64], k: usize) -> Amount
     requires { k < length numbers.now }
@@ -45,10 +39,7 @@ fn above_risk(
     ensures { result ≡ ltb (risk scanning.0 interprompt.0 prompt.0 credit.0) minimum.0 }
 {
     let charged = scanning.0 + interprompt.0 + prompt.0;
-    if charged <= credit.0 {
-        return 0 < minimum.0;
-    }
-    charged - credit.0 < minimum.0
+    charged.saturating_sub(credit.0) < minimum.0
 }
 
 // What the contract at a place adds.
@@ -62,12 +53,11 @@ fn found_at(numbers: &[i64], i: usize) -> Found
     let prompt = amount_at(numbers, at + 4);
     let credit = amount_at(numbers, at + 5);
     let minimum = amount_at(numbers, at + 6);
-    let margin = amount_at(numbers, at + 7);
     let above = above_risk(minimum, scanning, interprompt, prompt, credit);
     Found {
-        margin: margin,
-        credits: one_if(0 < credit.0),
-        above: one_if(above),
+        margin: amount_at(numbers, at + 7),
+        credits: usize::from(0 < credit.0),
+        above: usize::from(above),
     }
 }
 
@@ -79,17 +69,15 @@ pub(crate) fn found_in(numbers: &[i64]) -> Found
     let mut margin: u64 = 0;
     let mut credits = 0;
     let mut above = 0;
-    let mut i = 0;
-    while i < CONTRACTS {
+    for i in 0..CONTRACTS {
         let found = found_at(numbers, i);
         margin += found.margin.0;
         credits += found.credits;
         above += found.above;
-        i += 1;
     }
     Found {
         margin: Amount(margin),
-        credits: credits,
-        above: above,
+        credits,
+        above,
     }
 }

@@ -2,7 +2,7 @@
 ghost use Rattle.committee.specs.Answered.{answered_account};
 ghost use Rattle.committee.specs.code.Sums.{AccountOf};
 
-use crate::contracts::{found_in, one_if};
+use crate::contracts::found_in;
 use account::answers::number_of;
 use formulas::amount::Amount;
 use margin::asking::Question;
@@ -26,12 +26,10 @@ pub(crate) fn answer_account(account: &[u8]) -> Account
     let told = answer(account, Question::Figures, &mut numbers);
     let refusal = number_of(told);
     let found = found_in(&numbers);
-    let margin = found.margin;
-    let credit = one_if(0 < found.credits);
     Account {
-        refusal: refusal,
-        margin: margin,
-        credit: credit,
+        refusal,
+        margin: found.margin,
+        credit: usize::from(0 < found.credits),
         above: found.above,
     }
 }

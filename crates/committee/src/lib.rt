@@ -40,14 +40,11 @@ pub fn answer_committee(accounts: &[u8], lengths: &[usize], out: &mut [i64]) -> 
     }
     let mut sums = none();
     let mut at = 0;
-    let mut i = 0;
-    while i < count {
-        let end = at + lengths[i];
+    for (i, length) in lengths.iter().enumerate() {
+        let end = at + *length;
         let account = answer_account(&accounts[at..end]);
-        let next = with_account(sums, account, i);
-        sums = next;
+        sums = with_account(sums, account, i);
         at = end;
-        i += 1;
     }
     put_sums(sums, out);
     Ok(())

@@ -4,9 +4,7 @@ ghost use Rattle.account.specs.Check.{most_contracts};
 ghost use Rattle.committee.specs.Committee.{committee_numbers, most_accounts};
 ghost use Rattle.committee.specs.code.Sums.{RefusalCounted, AccountAdded, SumsOf, Within, later_numbers, sums_numbers};
 
-use crate::contracts::one_if;
 use crate::figures::Account;
-use exact::signed::as_signed;
 use formulas::amount::Amount;
 
 // The numbers of the refusals that an account can have.
@@ -44,25 +42,14 @@ pub(crate) fn none() -> Sums
 }
 
 // The counts of the refusals, with one more.
-fn with_refusal(refusals: [usize; REFUSALS], refusal: usize) -> [usize; REFUSALS]
+fn with_refusal(mut refusals: [usize; REFUSALS], refusal: usize) -> [usize; REFUSALS]
     requires { get_or refusals (refusal - 1) 0 ≤ most_accounts }
     ensures { RefusalCounted refusals refusal result }
 {
-    let mut counts = refusals;
-    if refusal == 0 {
-        return counts;
+    if 0 < refusal && refusal <= REFUSALS {
+        refusals[refusal - 1] += 1;
     }
-    if REFUSALS < refusal {
-        return counts;
-    }
-    counts[refusal - 1] = refusals[refusal - 1] + 1;
-    counts
-}
-
-fn either(b: bool, x: u64, y: u64) -> u64
-    ensures { result ≡ cond b x y }
-{
-    if b { x } else { y }
+    refusals
 }
 
 // The sums with an account more, which stands at a place of the run.
@@ -70,22 +57,22 @@ pub(crate) fn with_account(sums: Sums, account: Account, place: usize) -> Sums
     requires { Within most_accounts sums × (account.margin.0 < 2 ^ 62) × (account.credit ≤ 1) × (account.above ≤ most_contracts) }
     ensures { AccountAdded sums account place result }
 {
-    let refusal = account.refusal;
-    let counts = sums.refusals;
-    let refusals = with_refusal(counts, refusal);
-    let accepted = refusal == 0;
+    let accepted = account.refusal == 0;
     let first = sums.accepted == 0;
     let above = sums.largest.0 < account.margin.0;
     let leads = accepted & (first | above);
-    let largest = either(leads, account.margin.0, sums.largest.0);
-    let lowest = either(leads, place as u64, sums.place as u64);
+    let (largest, place) = if leads {
+        (account.margin, place)
+    } else {
+        (sums.largest, sums.place)
+    };
     Sums {
-        accepted: sums.accepted + one_if(accepted),
-        refused: sums.refused + one_if(!accepted),
-        refusals: refusals,
+        accepted: sums.accepted + usize::from(accepted),
+        refused: sums.refused + usize::from(!accepted),
+        refusals: with_refusal(sums.refusals, account.refusal),
         margin: Amount(sums.margin.0 + account.margin.0),
-        largest: Amount(largest),
-        place: lowest as usize,
+        largest,
+        place,
         credits: sums.credits + account.credit,
         above: sums.above + account.above,
     }
@@ -96,46 +83,36 @@ fn mean(whole: Amount, accounts: usize) -> u64
     ensures { result ≡ cond (eqb accounts 0) 0 (whole.0 / accounts) }
 {
     if accounts == 0 {
-        return 0;
+        0
+    } else {
+        whole.0 / accounts as u64
     }
-    whole.0 / accounts as u64
 }
 
 fn left_over(whole: Amount, accounts: usize) -> u64
     ensures { result ≡ cond (eqb accounts 0) 0 (whole.0 % accounts) }
 {
     if accounts == 0 {
-        return 0;
+        0
+    } else {
+        whole.0 % accounts as u64
     }
-    whole.0 % accounts as u64
 }
 
 // One of the seven numbers after the refusals, from 0.
 fn later_number(sums: Sums, k: usize) -> u64
     ensures { result ≡ get_or (later_numbers sums) k 0 }
 {
-    if k == 0 {
-        return sums.margin.0;
+    match k {
+        0 => sums.margin.0,
+        1 => sums.largest.0,
+        2 => sums.place as u64,
+        3 => sums.credits as u64,
+        4 => sums.above as u64,
+        5 => mean(sums.margin, sums.accepted),
+        6 => left_over(sums.margin, sums.accepted),
+        _ => 0,
     }
-    if k == 1 {
-        return sums.largest.0;
-    }
-    if k == 2 {
-        return sums.place as u64;
-    }
-    if k == 3 {
-        return sums.credits as u64;
-    }
-    if k == 4 {
-        return sums.above as u64;
-    }
-    if k == 5 {
-        return mean(sums.margin, sums.accepted);
-    }
-    if k == 6 {
-        return left_over(sums.margin, sums.accepted);
-    }
-    0
 }
 
 // One of the committee's numbers.
@@ -143,16 +120,14 @@ fn number_at(sums: Sums, k: usize) -> u64
     ensures { result ≡ get_or (sums_numbers sums) k 0 }
 {
     if k == 0 {
-        return sums.accepted as u64;
+        sums.accepted as u64
+    } else if k == 1 {
+        sums.refused as u64
+    } else if k < REFUSALS + 2 {
+        sums.refusals[k - 2] as u64
+    } else {
+        later_number(sums, k - (REFUSALS + 2))
     }
-    if k == 1 {
-        return sums.refused as u64;
-    }
-    if REFUSALS + 2 <= k {
-        return later_number(sums, k - (REFUSALS + 2));
-    }
-    let refusals = sums.refusals;
-    refusals[k - 2] as u64
 }
 
 // All of them, at the front of `out`.
@@ -160,9 +135,7 @@ pub(crate) fn put_sums(sums: Sums, out: &mut [i64])
     requires { Within most_accounts sums × (committee_numbers ≤ length out.old) }
     ensures { out.new ≡ map pos (sums_numbers sums) ++ drop committee_numbers out.old }
 {
-    let mut k = 0;
-    while k < NUMBERS {
-        out[k] = as_signed(number_at(sums, k));
-        k += 1;
+    for k in 0..NUMBERS {
+        out[k] = number_at(sums, k) as i64;
     }
 }

@@ -104,14 +104,12 @@ pub(crate) fn put_asked(out: &mut [i64], prompts: Prompts, table: Table)
     requires { (sound prompts table ≡ true) × (3 * prompts.count + 2 * table.count + 1 ≤ length out.old) }
     ensures { out.new ≡ sets out.old 0 (book_by (steps_of table) (open_of prompts)) }
 {
-    let tiers = prompts.tier;
-    let net = prompts.net;
-    let nets = plain(net);
+    let nets = plain(prompts.net);
     if table.count == 0 {
         put_unspread(out, prompts.count, &nets);
-        return;
+    } else {
+        run_table(out, prompts.count, &prompts.tier, &nets, table);
     }
-    run_table(out, prompts.count, &tiers, &nets, table);
 }
 
 // The numbers of a contract's book that was run, from the front.

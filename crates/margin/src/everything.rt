@@ -253,12 +253,18 @@ fn contract_from<'a>(
     let own = own_part(morning, noon, w);
     let prompts = prompts_part(morning, noon, w);
     let spreads = spreads_part(morning, noon, w);
-    let sixteen = p.totals;
-    let totals = sixteen.0;
-    let its_nets = p.nets;
-    let nets = plain(its_nets);
+    let nets = plain(p.nets);
     contract_in(
-        own, prompts, spreads, count, c, &totals, &nets, p.shorts, books, uses,
+        own,
+        prompts,
+        spreads,
+        count,
+        c,
+        &p.totals.0,
+        &nets,
+        p.shorts,
+        books,
+        uses,
     )
 }
 
@@ -286,12 +292,10 @@ fn place_over<'a>(
     let count = contract_total(account);
     let rates = rates_over(morning, noon, account);
     let mut total: u64 = 0;
-    let mut i = 0;
-    while i < count {
+    for i in 0..count {
         let line = contract_over(morning, noon, account, i, rates, books, uses);
         let margin = place_line(i, line, figures, tiers, nets, units, prices, sizes);
         total += margin.0;
-        i += 1;
     }
     put(figures, count * FIGURES_EACH, total);
 }
@@ -319,16 +323,14 @@ fn place_from<'a>(
         uses.new tiers.new nets.new units.new prices.new sizes.new }
 {
     let count = contract_total(account);
-    let records = positions.records;
     let mut total: u64 = 0;
-    let mut i = 0;
-    while i < count {
+    for i in 0..count {
         let c = contract_number(account, i);
         let line = contract_from(
             morning,
             noon,
             account,
-            records,
+            positions.records,
             c,
             positions.at[c],
             books,
@@ -336,7 +338,6 @@ fn place_from<'a>(
         );
         let margin = place_line(i, line, figures, tiers, nets, units, prices, sizes);
         total += margin.0;
-        i += 1;
     }
     put(figures, count * FIGURES_EACH, total);
 }
@@ -359,7 +360,7 @@ fn lend_table_uses(
         return;
     }
     let prompts = Prompts {
-        count: count,
+        count,
         tier: *tiers,
         net: deltas_from(*nets),
     };
@@ -580,10 +581,10 @@ fn lend_over<'a>(
 {
     if figures_count(account) <= figures.len() {
         put_over(morning, noon, account, figures, books, uses);
-        return;
+    } else {
+        let mut unlent = [0i64; LONGEST_FIGURES];
+        put_over(morning, noon, account, &mut unlent, books, uses);
     }
-    let mut unlent = [0i64; LONGEST_FIGURES];
-    put_over(morning, noon, account, &mut unlent, books, uses);
 }
 
 // The same by positions.
@@ -602,10 +603,10 @@ fn lend_from<'a>(
 {
     if figures_count(account) <= figures.len() {
         put_from(morning, noon, account, positions, figures, books, uses);
-        return;
+    } else {
+        let mut unlent = [0i64; LONGEST_FIGURES];
+        put_from(morning, noon, account, positions, &mut unlent, books, uses);
     }
-    let mut unlent = [0i64; LONGEST_FIGURES];
-    put_from(morning, noon, account, positions, &mut unlent, books, uses);
 }
 
 // What is answered where so many numbers are needed and so many lent.

@@ -12,10 +12,9 @@ ghost use Rattle.account.specs.Check.{most_prompts};
 ghost use Rattle.formulas.specs.code.Sums.{interleaved};
 
 use account::parts::CONTRACTS;
-use exact::signed::as_signed;
 use formulas::amount::{Amount, margin, risk};
 use formulas::line::Line;
-use spread::{Delta, MOST_PROMPTS, MOST_SPREADS};
+use spread::{MOST_PROMPTS, MOST_SPREADS};
 
 // The numbers of a contract in the figures.
 pub const FIGURES_EACH: usize = 8;
@@ -34,7 +33,7 @@ pub(crate) fn put(out: &mut [i64], at: usize, x: u64)
     requires { (at < length out.old) × (x < 2 ^ 63) }
     ensures { out.new ≡ set out.old at (pos x) }
 {
-    out[at] = as_signed(x);
+    out[at] = x as i64;
 }
 
 // A contract's margin.
@@ -72,23 +71,14 @@ pub(crate) fn put_line(out: &mut [i64], at: usize, l: Line, credit: Amount) -> A
     margin
 }
 
-// A delta, at a place.
-fn put_delta(out: &mut [i64], at: usize, d: Delta)
-    requires { at < length out.old }
-    ensures { out.new ≡ set out.old at d.0 }
-{
-    let z = d.0;
-    out[at] = z;
-}
-
 // The net delta of a prompt, and what of it is used and unused, from a place on.
-fn put_three(out: &mut [i64], at: usize, net: Delta, used: Delta, unused: Delta)
+fn put_three(out: &mut [i64], at: usize, net: i64, used: i64, unused: i64)
     requires { at + 3 ≤ length out.old }
-    ensures { out.new ≡ sets out.old at (net.0 ∷ used.0 ∷ unused.0 ∷ []) }
+    ensures { out.new ≡ sets out.old at (net ∷ used ∷ unused ∷ []) }
 {
-    put_delta(out, at, net);
-    put_delta(out, at + 1, used);
-    put_delta(out, at + 2, unused);
+    out[at] = net;
+    out[at + 1] = used;
+    out[at + 2] = unused;
 }
 
 // The numbers of a spread's two steps, from a place on.
@@ -106,11 +96,8 @@ pub(crate) fn put_unspread(out: &mut [i64], prompts: usize, nets: &[i64; MOST_PR
     ensures { (ps : List Open) → take prompts nets.now ≡ map (λ p. p.unused) ps
         → out.new ≡ sets out.old 0 (book_by [] ps) }
 {
-    let mut i = 0;
-    while i < prompts {
-        let net = nets[i];
-        put_three(out, i * 3, Delta(net), Delta(0), Delta(net));
-        i += 1;
+    for i in 0..prompts {
+        put_three(out, i * 3, nets[i], 0, nets[i]);
     }
     put(out, prompts * 3, 0);
 }
@@ -127,13 +114,8 @@ fn put_prompts(
     ensures { out.new ≡ sets out.old 0
         (threes (take prompts nets.now) (take prompts used.now) (take prompts unused.now)) }
 {
-    let mut i = 0;
-    while i < prompts {
-        let net = nets[i];
-        let taken = used[i];
-        let left = unused[i];
-        put_three(out, i * 3, Delta(net), Delta(taken), Delta(left));
-        i += 1;
+    for i in 0..prompts {
+        put_three(out, i * 3, nets[i], used[i], unused[i]);
     }
 }
 
@@ -149,10 +131,8 @@ fn put_spreads(
     ensures { out.new ≡ sets out.old at
         (map pos (interleaved (take spreads (spreads_from first.now)) (take spreads (spreads_from second.now)))) }
 {
-    let mut i = 0;
-    while i < spreads {
+    for i in 0..spreads {
         put_two(out, at + i * 2, first[i], second[i]);
-        i += 1;
     }
 }
 

@@ -103,10 +103,9 @@ fn tier_at<'a>(morning: &'a [u8], noon: &'a [u8], account: &[u16; NOTES], i: usi
     let c = contract_number(account, i);
     let w = whereabouts_of(account, c);
     let rows = rows_part(morning, noon, w);
-    let net = rows_net(rows);
     Tier {
         contract: c as u8,
-        net: net,
+        net: rows_net(rows),
     }
 }
 
@@ -118,16 +117,13 @@ fn tiers_over<'a>(morning: &'a [u8], noon: &'a [u8], account: &[u16; NOTES]) -> 
     let count = contract_total(account);
     let mut tiers = [0u8; MOST_PROMPTS];
     let mut nets = [Delta(0); MOST_PROMPTS];
-    let mut i = 0;
-    while i < count {
+    for i in 0..count {
         let one = tier_at(morning, noon, account, i);
         tiers[i] = one.contract;
-        let net = one.net;
-        nets[i] = net;
-        i += 1;
+        nets[i] = one.net;
     }
     Prompts {
-        count: count,
+        count,
         tier: tiers,
         net: nets,
     }
@@ -167,8 +163,7 @@ pub(crate) fn asking_with<'a>(
     let w = whereabouts_of(account, c);
     let prompts = prompts_part(morning, noon, w);
     let spreads = spreads_part(morning, noon, w);
-    let nets = p.nets;
-    contract_asking(prompts, spreads, nets)
+    contract_asking(prompts, spreads, p.nets)
 }
 
 // The same of a contract that stands in the files.
@@ -209,17 +204,15 @@ pub(crate) fn asking_over<'a>(
 {
     if question == TABLE {
         let tiers = tiers_over(morning, noon, account);
-        return table_asking(part(morning, noon, account, ENTRIES), tiers);
+        table_asking(part(morning, noon, account, ENTRIES), tiers)
+    } else {
+        asking_of(morning, noon, account, question)
     }
-    asking_of(morning, noon, account, question)
 }
 
 // Whether a question is a listed contract or 16.
 pub(crate) fn is_asked(account: &[u16; NOTES], question: usize) -> bool
     ensures { result ≡ asked_by (account_in account.now).counts question }
 {
-    if TABLE < question {
-        return false;
-    }
-    (question == TABLE) | (part_total(account, OWN + question) != 0)
+    question == TABLE || (question < TABLE && part_total(account, OWN + question) != 0)
 }

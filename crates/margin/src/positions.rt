@@ -34,14 +34,11 @@ fn positions_lent<'a>(morning: &'a [u8], noon: &'a [u8], account: &[u16; NOTES])
     requires { Stands morning.now noon.now (account_in account.now) }
     ensures { PositionsOf (account_of morning.now noon.now) result }
 {
-    let count = contract_total(account);
     let rates = rates_over(morning, noon, account);
     let mut at = [flat(); CONTRACTS];
-    let mut i = 0;
-    while i < count {
+    for i in 0..contract_total(account) {
         let c = contract_number(account, i);
         at[c] = position_in(morning, noon, account, c, rates);
-        i += 1;
     }
     Positions {
         records: record_total(account),
@@ -64,11 +61,9 @@ fn tier_with(c: usize, p: Position) -> Tier
     requires { (c ≤ most_contract) × (sum (map nat_abs (deltas_in p.nets)) ≤ most_delta) }
     ensures { (result.contract ≡ c) × (result.net.0 ≡ sum_ℤ (deltas_in p.nets)) }
 {
-    let nets = p.nets;
-    let net = contract_net(nets);
     Tier {
         contract: c as u8,
-        net: net,
+        net: contract_net(p.nets),
     }
 }
 
@@ -85,17 +80,14 @@ pub(crate) fn tiers_from<'a>(
     let count = contract_total(account);
     let mut tiers = [0u8; MOST_PROMPTS];
     let mut nets = [Delta(0); MOST_PROMPTS];
-    let mut i = 0;
-    while i < count {
+    for i in 0..count {
         let c = contract_number(account, i);
         let one = tier_with(c, positions.at[c]);
         tiers[i] = one.contract;
-        let net = one.net;
-        nets[i] = net;
-        i += 1;
+        nets[i] = one.net;
     }
     Prompts {
-        count: count,
+        count,
         tier: tiers,
         net: nets,
     }
@@ -116,7 +108,8 @@ pub(crate) fn asking_from<'a>(
 {
     if question == TABLE {
         let tiers = tiers_from(morning, noon, account, positions);
-        return table_asking(part(morning, noon, account, ENTRIES), tiers);
+        table_asking(part(morning, noon, account, ENTRIES), tiers)
+    } else {
+        asking_with(morning, noon, account, question, positions.at[question])
     }
-    asking_with(morning, noon, account, question, positions.at[question])
 }

@@ -39,8 +39,7 @@ pub(crate) fn place_line(
     ensures margin { (result.0 ≡ margin_with line 0) × (result.0 ≤ 3 * most_risk) }
 {
     let c = line.contract;
-    let net = line.net;
-    let number = net.0;
+    let number = line.net.0;
     let margin = put_line(out, i * FIGURES_EACH, line, Amount(0));
     tiers[i] = c as u8;
     nets[i] = number;
@@ -55,18 +54,14 @@ fn line_from(out: &[i64], at: usize) -> Line
     requires { at + figures_each ≤ length out.now }
     ensures { result ≡ line_at out.now at }
 {
-    let scanning = Amount(magnitude(out[at + 2]));
-    let interprompt = Amount(magnitude(out[at + 3]));
-    let prompt = Amount(magnitude(out[at + 4]));
-    let minimum = Amount(magnitude(out[at + 6]));
     Line {
         contract: magnitude(out[at]) as usize,
         unit: 0,
         active: magnitude(out[at + 1]) as usize,
-        scanning: scanning,
-        interprompt: interprompt,
-        prompt: prompt,
-        minimum: minimum,
+        scanning: Amount(magnitude(out[at + 2])),
+        interprompt: Amount(magnitude(out[at + 3])),
+        prompt: Amount(magnitude(out[at + 4])),
+        minimum: Amount(magnitude(out[at + 6])),
         twice_price: 0,
         net: Delta(0),
     }
@@ -80,14 +75,11 @@ fn put_credits(count: usize, earned: &[u64; CONTRACTS], out: &mut [i64])
         (figures_from (take count (lines_at out.old)) (take count (credits_at earned.now (lines_at out.old))))) }
 {
     let mut total: u64 = 0;
-    let mut i = 0;
-    while i < count {
+    for i in 0..count {
         let at = i * FIGURES_EACH;
         let line = line_from(out, at);
-        let c = line.contract;
-        let margin = put_line(out, at, line, Amount(earned[c]));
+        let margin = put_line(out, at, line, Amount(earned[line.contract]));
         total += margin.0;
-        i += 1;
     }
     put(out, count * FIGURES_EACH, total);
 }

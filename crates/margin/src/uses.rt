@@ -28,12 +28,8 @@ fn put_deltas(out: &mut [i64], at: usize, count: usize, deltas: [Delta; MOST_PRO
     requires { (count ≤ most_prompts) × (at + count ≤ length out.old) }
     ensures { out.new ≡ sets out.old at (take count (deltas_in deltas)) }
 {
-    let mut i = 0;
-    while i < count {
-        let d = deltas[i];
-        let z = d.0;
-        out[at + i] = z;
-        i += 1;
+    for i in 0..count {
+        out[at + i] = deltas[i].0;
     }
 }
 
@@ -43,8 +39,7 @@ fn put_step(out: &mut [i64], at: usize, prompts: Prompts, spread: Spread, second
     ensures { LeftBy prompts spread second result × (out.new ≡ sets out.old at (taken_of (step_of second spread) (open_of prompts))) }
 {
     let step = step_over(prompts, spread, second);
-    let taken = step.taken;
-    put_deltas(out, at, prompts.count, taken);
+    put_deltas(out, at, prompts.count, step.taken);
     step.left
 }
 
@@ -62,17 +57,13 @@ fn put_uses(out: &mut [i64], prompts: Prompts, table: Table)
     ensures { out.new ≡ sets out.old 0 (uses_of (steps_of table) (open_of prompts)) }
 {
     let n = prompts.count;
-    let spreads = table.count;
     let mut left = prompts;
     let mut at = 0;
-    let mut i = 0;
-    while i < spreads {
+    for i in 0..table.count {
         let spread = table.spread[i];
         let between = put_step(out, at, left, spread, false);
-        let rest = put_step(out, at + n, between, spread, true);
-        left = rest;
+        left = put_step(out, at + n, between, spread, true);
         at += 2 * n;
-        i += 1;
     }
 }
 

@@ -11,12 +11,9 @@ use reading::numbers::{after, number_at};
 // Eight numbers for each contract, then the total.
 fn print_figures(rt: &impl Print, count: usize, numbers: &[i64]) {
     let mut rest = numbers;
-    let mut k = 0;
-    while k < count {
+    for _ in 0..count {
         print_contract(rt, rest);
-        let later = after(rest, FIGURES);
-        rest = later;
-        k += 1;
+        rest = after(rest, FIGURES);
     }
     print_total(rt, number_at(rest, 0));
 }

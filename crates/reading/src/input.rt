@@ -43,6 +43,7 @@ pub fn read_input(rt: &(impl io::Input + Eprint), file: &mut [u8]) -> Input
 {
     let mut input = rt.reader();
     let mut bytes = 0;
+    // A while: a read brings as many bytes as it brings.
     while bytes < file.len() {
         match input.read(&mut file[bytes..]) {
             Ok(n) if 0 < n => bytes += n,

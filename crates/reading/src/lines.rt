@@ -25,10 +25,8 @@ fn end_line(rt: &impl Print) {
 
 // The figures of the contract whose numbers stand in front.
 fn print_figures(rt: &impl Print, figures: &[i64]) {
-    let mut k = 0;
-    while k < FIGURES {
+    for k in 0..FIGURES {
         print_number(rt, number_at(figures, k));
-        k += 1;
     }
 }
 

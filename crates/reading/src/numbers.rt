@@ -5,16 +5,12 @@ ghost use Rattle.std.specs.Prelude.{◌≡◌, pos, get_or, drop};
 pub fn number_at(numbers: &[i64], k: usize) -> i64
     ensures { result ≡ get_or numbers.now k (pos 0) }
 {
-    if k < numbers.len() { numbers[k] } else { 0 }
+    numbers.get(k).copied().unwrap_or(0)
 }
 
 // The numbers after the first n.
 pub fn after(numbers: &[i64], n: usize) -> &[i64]
     ensures { result.now ≡ drop n numbers.now }
 {
-    if numbers.len() < n {
-        let end = numbers.len();
-        return &numbers[end..];
-    }
-    &numbers[n..]
+    &numbers[n.min(numbers.len())..]
 }

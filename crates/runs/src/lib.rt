@@ -21,14 +21,11 @@ pub fn add_up(lengths: &[usize], whole: usize) -> bool
     ensures { result ≡ eqb (sum lengths.now) whole }
 {
     let mut left = whole;
-    let mut i = 0;
-    while i < lengths.len() {
-        let n = lengths[i];
-        if left < n {
+    for n in lengths {
+        if left < *n {
             return false;
         }
-        left -= n;
-        i += 1;
+        left -= *n;
     }
     left == 0
 }
@@ -82,13 +79,11 @@ pub fn answer_run(
         return Err(Refusal::TooFewNumbers(0));
     }
     let mut at = 0;
-    let mut i = 0;
-    while i < count {
-        let end = at + lengths[i];
+    for (i, length) in lengths.iter().enumerate() {
+        let end = at + *length;
         let answer = place_figures(&accounts[at..end], i, out);
         place_outcome(answer, i, outcomes);
         at = end;
-        i += 1;
     }
     Ok(())
 }

@@ -49,11 +49,7 @@ fn refused(told: Ticketed) -> Asked
 fn ticket_count(tickets: &[u8]) -> usize
     ensures { result ≡ length (tickets_in tickets.now) }
 {
-    let whole = tickets.len() / RECORD_BYTES;
-    if tickets.len() % RECORD_BYTES == 0 {
-        return whole;
-    }
-    whole + 1
+    tickets.len().div_ceil(RECORD_BYTES)
 }
 
 // Tickets in turn, up to the first that is refused.

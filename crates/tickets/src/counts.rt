@@ -55,10 +55,8 @@ fn totals_of(account: Account, first: usize) -> [usize; CONTRACTS]
     ensures { Filled most_contracts (λ c. get_or account.counts (first + c) 0) result }
 {
     let mut totals = [0usize; CONTRACTS];
-    let mut c = 0;
-    while c < CONTRACTS {
-        totals[c] = part_total(account, first + c);
-        c += 1;
+    for (c, total) in totals.iter_mut().enumerate() {
+        *total = part_total(account, first + c);
     }
     totals
 }
@@ -66,7 +64,7 @@ fn totals_of(account: Account, first: usize) -> [usize; CONTRACTS]
 fn number_at(numbers: &[usize], i: usize) -> usize
     ensures { result ≡ get_or numbers.now i 0 }
 {
-    if i < numbers.len() { numbers[i] } else { 0 }
+    numbers.get(i).copied().unwrap_or(0)
 }
 
 // The first `n` numbers, added up.
@@ -75,10 +73,8 @@ fn sum_of(numbers: &[usize], n: usize) -> usize
     ensures { result ≡ sum (take n numbers.now) }
 {
     let mut total = 0;
-    let mut i = 0;
-    while i < n {
+    for i in 0..n {
         total += number_at(numbers, i);
-        i += 1;
     }
     total
 }
@@ -103,8 +99,7 @@ fn place_of(counts: Counts, c: usize) -> usize
     requires { SmallCounts counts × (c < 256) }
     ensures { result ≡ counts.above + sum (take (c + 1) counts.rows) }
 {
-    let rows = counts.rows;
-    counts.above + sum_of(&rows, c + 1)
+    counts.above + sum_of(&counts.rows, c + 1)
 }
 
 // 7: the row's contract is not listed, or none of the contract's prompts is on its day.
@@ -127,18 +122,16 @@ fn row_fault<'a>(file: &'a [u8], none: &'a [u8], account: Account, rows: usize, 
         row.now }
 {
     if unused_byte(row) {
-        return 5;
+        5
+    } else if field_outside(row) {
+        6
+    } else if missing(file, none, account, row) {
+        7
+    } else if MOST_ROWS <= rows {
+        9
+    } else {
+        0
     }
-    if field_outside(row) {
-        return 6;
-    }
-    if missing(file, none, account, row) {
-        return 7;
-    }
-    if MOST_ROWS <= rows {
-        return 9;
-    }
-    0
 }
 
 // What a ticket is told.
@@ -179,33 +172,21 @@ pub fn ticket_place(file: &[u8], counts: Counts, ticket: &[u8]) -> usize
 }
 
 // The counts with one row more of contract `c`.
-pub(crate) fn one_more(counts: Counts, c: usize) -> Counts
+pub(crate) fn one_more(mut counts: Counts, c: usize) -> Counts
     requires { SmallCounts counts × (c ≤ most_contract) }
     ensures { OneMore c counts result }
 {
-    let account = counts.account;
-    let mut rows = counts.rows;
-    rows[c] = rows[c] + 1;
-    Counts {
-        account,
-        above: counts.above,
-        rows,
-        tickets: counts.tickets + 1,
-    }
+    counts.rows[c] += 1;
+    counts.tickets += 1;
+    counts
 }
 
 // The counts with one row less of contract `c`.
-pub(crate) fn one_less(counts: Counts, c: usize) -> Counts
+pub(crate) fn one_less(mut counts: Counts, c: usize) -> Counts
     requires { SmallCounts counts × ((c ≤ most_contract) × ((1 ≤ get_or counts.rows c 0) × (1 ≤ counts.tickets))) }
     ensures { OneLess c counts result }
 {
-    let account = counts.account;
-    let mut rows = counts.rows;
-    rows[c] = rows[c] - 1;
-    Counts {
-        account,
-        above: counts.above,
-        rows,
-        tickets: counts.tickets - 1,
-    }
+    counts.rows[c] -= 1;
+    counts.tickets -= 1;
+    counts
 }

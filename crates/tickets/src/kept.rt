@@ -49,17 +49,15 @@ fn with_row<'a>(file: &'a [u8], none: &'a [u8], kept: Kept, row: &[u8]) -> Posit
     ensures { (tickets : List Record) → KeptBy file.now tickets kept
         → PositionsOf (records (with_tickets file.now (tickets ++ row.now ∷ []))) result }
 {
-    let counts = kept.counts;
-    let positions = kept.positions;
-    let account = account_of(counts);
+    let account = account_of(kept.counts);
     let c = contract(row);
     let own = part(file, none, account, OWN + c);
     let prompts = part(file, none, account, PROMPTS + c);
     let rates = rates_of(part(file, none, account, RATES));
-    let mut at = positions.at;
+    let mut at = kept.positions.at;
     at[c] = with_rows(at[c], days_of(prompts), rates, unit(own) as u64, row);
     Positions {
-        records: positions.records + 1,
+        records: kept.positions.records + 1,
         at,
     }
 }
@@ -70,17 +68,15 @@ fn without_row<'a>(file: &'a [u8], none: &'a [u8], kept: Kept, row: &[u8]) -> Po
     ensures { (tickets : List Record) → KeptBy file.now (tickets ++ row.now ∷ []) kept
         → PositionsOf (records (with_tickets file.now tickets)) result }
 {
-    let counts = kept.counts;
-    let positions = kept.positions;
-    let account = account_of(counts);
+    let account = account_of(kept.counts);
     let c = contract(row);
     let own = part(file, none, account, OWN + c);
     let prompts = part(file, none, account, PROMPTS + c);
     let rates = rates_of(part(file, none, account, RATES));
-    let mut at = positions.at;
+    let mut at = kept.positions.at;
     at[c] = without_rows(at[c], days_of(prompts), rates, unit(own) as u64, row);
     Positions {
-        records: positions.records - 1,
+        records: kept.positions.records - 1,
         at,
     }
 }
@@ -119,9 +115,12 @@ pub fn kept_total(file: &[u8], kept: Kept) -> Amount
     requires { Keeps file.now kept }
     ensures { (tickets : List Record) → KeptBy file.now tickets kept → result.0 ≡ account_total (records (with_tickets file.now tickets)) }
 {
-    let counts = kept.counts;
-    let positions = kept.positions;
-    total_from(file, nothing_of(file), account_of(counts), positions)
+    total_from(
+        file,
+        nothing_of(file),
+        account_of(kept.counts),
+        kept.positions,
+    )
 }
 
 // A question's answer, at the front of `out`. A refusal writes nothing.
@@ -131,13 +130,11 @@ pub fn kept_answer(file: &[u8], kept: Kept, question: Question, out: &mut [i64])
         → (result ≡ answer_over (records (with_tickets file.now tickets)) question (length out.old))
         × (out.new ≡ after_over (records (with_tickets file.now tickets)) question out.old) }
 {
-    let counts = kept.counts;
-    let positions = kept.positions;
     answer_from(
         file,
         nothing_of(file),
-        account_of(counts),
-        positions,
+        account_of(kept.counts),
+        kept.positions,
         question,
         out,
     )
@@ -149,8 +146,7 @@ pub fn kept_needed(file: &[u8], kept: Kept, question: Question) -> usize
     ensures { (((tickets : List Record) → KeptBy file.now tickets kept
         → result ≡ need_over (records (with_tickets file.now tickets)) question)) × (result ≤ most_for question) }
 {
-    let counts = kept.counts;
-    needed_over(file, nothing_of(file), account_of(counts), question)
+    needed_over(file, nothing_of(file), account_of(kept.counts), question)
 }
 
 // The figures, and the books and uses of all questions.
@@ -165,13 +161,11 @@ pub fn kept_all(
     ensures { (tickets : List Record) → KeptBy file.now tickets kept → EverythingOf (records (with_tickets file.now tickets))
         figures.old books.old uses.old result figures.new books.new uses.new }
 {
-    let counts = kept.counts;
-    let positions = kept.positions;
     everything_from(
         file,
         nothing_of(file),
-        account_of(counts),
-        positions,
+        account_of(kept.counts),
+        kept.positions,
         figures,
         books,
         uses,

@@ -1,9 +1,9 @@
 pub mod Sorting
-pub mod Halves
 pub mod Placed
 pub mod Ranks
 pub mod Answered
 pub mod Held
 pub mod Stable
+pub mod Pairs
 pub mod Same
 pub mod Claimed

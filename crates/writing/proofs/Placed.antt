@@ -7,7 +7,7 @@ use mathlib.Core.Bool.{Bool, true, false, not, cond}
 use mathlib.Core.List.{List, [], ◌∷◌, ◌++◌, map, append_assoc, map-append}
 use lib.Dec.{eqb, leb, ltb}
 use lib.ListN.{length, get_or, take, drop, length-append, length-drop, length-map}
-use lib.Seq.{length-take-le, take-add, take_at, drop_at, take_all, get_or-take, drop-drop}
+use lib.Seq.{length-take-le, take-add, take_at, drop_at, get_or-take, drop-drop}
 use native.Mathlib.Omega.{arith}
 use borrow.Author.Tests.{eqb-true, not-false, ltb-false}
 use Rattle.exact.proofs.Lists.{get_d_map}
@@ -24,7 +24,6 @@ use Rattle.account.proofs.Walk.{length_cut}
 use Rattle.writing.specs.Order.{rank, rank_at, places, Ordered}
 use Rattle.writing.specs.Sorting.{put_in, sorted}
 use Rattle.writing.specs.Written.{together, left_over, written, filled_in, as_entered, verdict_on}
-use Rattle.writing.proofs.Halves.{count_more, length-count}
 use Rattle.writing.proofs.Sorting.{sorted-map, length-sorted}
 
 -- ---- what holds of each
@@ -62,6 +61,19 @@ all_weaker P Q f (x ∷ xs) h = (f x h.0, all_weaker P Q f xs h.1)
 pub counted_all : (b n k : ℕ) → n + k ≤ b → All (λ (j : ℕ). j < b) (count_from n k)
 counted_all b n zero h = tt
 counted_all b n (suc k) h = (omega arith, counted_all b (n + 1) k (omega arith))
+
+-- ---- numbers counted up
+pub count_more : (n k : ℕ) → count_from n (suc k) ≡ count_from n k ++ (n + k) ∷ []
+count_more n zero =
+    let e : n + 0 ≡ n = omega arith in
+    rw e
+count_more n (suc k) =
+    let e : n + 1 + k ≡ n + suc k = omega arith in
+    ap (λ (xs : List ℕ). n ∷ xs) (count_more (n + 1) k ∙ ap (λ (x : ℕ). count_from (n + 1) k ++ x ∷ []) e)
+
+pub length-count : (n k : ℕ) → length (count_from n k) ≡ k
+length-count n zero = refl
+length-count n (suc k) = ap suc (length-count (n + 1) k)
 
 -- ---- the places
 pub places_all : (entries : List ℕ) → All (λ (j : ℕ). j < record_count entries) (places entries)
@@ -196,9 +208,6 @@ pub record Filling (entries : List ℕ) (k n : ℕ) (out₀ out : List ℕ) (i :
   pub inside : i ≤ n
   pub done : out ≡ filled_in entries k i out₀
 
-pub filling_start : (entries : List ℕ) (k n : ℕ) (out : List ℕ) → Filling entries k n out out 0
-filling_start entries k n out = record { long = refl; inside = omega arith; done = refl }
-
 module _ (entries : List ℕ) (k n : ℕ) (out₀ out : List ℕ) (i : ℕ) (f : Filling entries k n out₀ out i) (more : i < n)
     (within : k + n ≤ record_count entries) (room : n * record_bytes ≤ length out₀) where
   abbrev W : List ℕ
@@ -215,14 +224,13 @@ module _ (entries : List ℕ) (k n : ℕ) (out₀ out : List ℕ) (i : ℕ) (f :
       length-take-le (i * record_bytes + record_bytes - i * record_bytes) (drop (i * record_bytes) out) (omega (arith, f.long)) ∙ e
 
   pub filling_next :
-      {Y r : List ℕ} → r ≡ record_at W (k + i) → Y ≡ take (length part_for) r
+      {Y r : List ℕ} → r ≡ record_at W (k + i) → Y ≡ r
       → Filling entries k n out₀ (take (i * record_bytes) out ++ (Y ++ drop (i * record_bytes + record_bytes - i * record_bytes) (drop (i * record_bytes) out)))
       (i + 1)
   filling_next {Y} {r} hr hY =
       let e : i * record_bytes + record_bytes - i * record_bytes ≡ record_bytes = omega arith in
       let s = count_same entries in
-      let rl : length r ≡ record_bytes = ap length hr ∙ record_long W (k + i) (omega arith) in
-      let whole : Y ≡ record_at W (k + i) = hY ∙ ap (λ (m : ℕ). take m r) part_long ∙ take_all record_bytes r (omega arith) ∙ hr in
+      let whole : Y ≡ record_at W (k + i) = hY ∙ hr in
       let fl = stretch_long W k i (omega arith) in
       let front : take (i * record_bytes) out ≡ stretch W k i = ap (take (i * record_bytes)) f.done
       ∙ take_at (stretch W k i) (drop (i * record_bytes) out₀) (i * record_bytes) fl in
@@ -246,12 +254,6 @@ module _ (entries : List ℕ) (k n : ℕ) (out₀ out : List ℕ) (i : ℕ) (f :
         inside = omega arith;
         done = is;
       }
-
-pub filling_ends :
-    (entries : List ℕ) (k n : ℕ) (out₀ out : List ℕ) (i : ℕ) → Filling entries k n out₀ out i → n ≤ i → out ≡ filled_in entries k n out₀
-filling_ends entries k n out₀ out i f past =
-    let e : i ≡ n = omega (arith, f.inside) in
-    f.done ∙ ap (λ (m : ℕ). filled_in entries k m out₀) e
 
 -- what is put at the front is there
 pub front_filled :

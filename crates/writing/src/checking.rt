@@ -41,9 +41,10 @@ fn entry_before<'a>(entries: &'a [u8], order: &[u16], k: usize) -> &'a [u8]
     ensures { result.now ≡ before_at (written entries.now) k }
 {
     if k == 0 {
-        return &entries[..0];
+        &entries[..0]
+    } else {
+        entry_at(entries, order, k - 1)
     }
-    entry_at(entries, order, k - 1)
 }
 
 fn names_prompts(r: &[u8]) -> bool
@@ -58,9 +59,10 @@ fn asked_of(r: &[u8]) -> usize
     ensures { result ≡ asked_of r.now }
 {
     if names_prompts(r) {
-        return contract(r);
+        contract(r)
+    } else {
+        NO_CONTRACT
     }
-    NO_CONTRACT
 }
 
 // The prompts of contract `c` in the place of those of contract `held`.
@@ -76,11 +78,10 @@ fn hold(
     requires { Ordered entries.now order.now × CanChange (written entries.now) first.now counts.now prompts.old held c }
     ensures { HeldNotes (written entries.now) first.now counts.now prompts.new c }
 {
-    if c == held {
-        return;
+    if c != held {
+        let v = PROMPTS + c;
+        fill(entries, order, noted(first, v), noted(counts, v), prompts);
     }
-    let v = PROMPTS + c;
-    fill(entries, order, noted(first, v), noted(counts, v), prompts);
 }
 
 // The fault of a record, by the prompts of contract `c`.
@@ -119,14 +120,11 @@ fn conversions_written(entries: &[u8], order: &[u16], t: Rates) -> Result<(), Re
     requires { Ordered entries.now order.now × RatesHeld (written entries.now) t }
     ensures { result ≡ rates_checked (records (written entries.now)) }
 {
-    let count = record_count(entries);
-    let mut k = 0;
-    while k < count {
+    for k in 0..record_count(entries) {
         let answer = answer_at(t, entry_at(entries, order, k), k);
         if number_of(answer) != 0 {
             return answer;
         }
-        k += 1;
     }
     Ok(())
 }
@@ -136,13 +134,11 @@ pub(crate) fn check_written(entries: &[u8], order: &[u16]) -> Result<(), Refusal
     requires { Ordered entries.now order.now × ((too_long entries.now ≡ false) × (cut_record entries.now ≡ false)) }
     ensures { result ≡ checked (written entries.now) }
 {
-    let count = record_count(entries);
     let mut first = [0u16; PARTS];
     let mut counts = [0u16; PARTS];
     let mut prompts = [0u8; PROMPT_BYTES];
     let mut held = NO_CONTRACT;
-    let mut k = 0;
-    while k < count {
+    for k in 0..record_count(entries) {
         let r = entry_at(entries, order, k);
         let c = asked_of(r);
         hold(entries, order, &first, &counts, held, c, &mut prompts);
@@ -154,7 +150,6 @@ pub(crate) fn check_written(entries: &[u8], order: &[u16]) -> Result<(), Refusal
         note_first(&mut first, &counts, v, k);
         note_one(&mut counts, v);
         held = c;
-        k += 1;
     }
     let t = rates_in(entries, order, noted(&first, RATES), noted(&counts, RATES));
     conversions_written(entries, order, t)

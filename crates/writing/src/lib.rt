@@ -10,7 +10,7 @@ use crate::verdict::verdict_on;
 use account::answers::{Refusal, number_of};
 use record::bytes::RECORD_BYTES;
 
-mod merging; // merging.rt: a stable sort of places by their keys
+mod places; // places.rt: a stable sort of places by their keys
 mod order; // order.rt: the file's order of entries
 mod filling; // filling.rt: the entries put in that order
 mod checking; // checking.rt: the check of the written file, through the order

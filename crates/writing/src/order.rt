@@ -5,7 +5,7 @@ ghost use Rattle.account.specs.Records.{record_count};
 ghost use Rattle.writing.specs.Order as Order;
 ghost use Rattle.writing.specs.Order.{of_its_kind, Keyed, Ordered};
 
-use crate::merging::{number_up, sort};
+use crate::places::sort;
 use account::check::MOST_RECORDS;
 use account::stretches::{record_at, record_count};
 use record::bytes::RECORD_BYTES;
@@ -20,14 +20,11 @@ const FIVE_BYTES: usize = 256 * FOUR_BYTES;
 fn of_its_kind(r: &[u8]) -> usize
     ensures { (result ≡ of_its_kind r.now) × (result < 1099511627776) }
 {
-    let k = kind(r);
-    if k == 2 {
-        return contract(r) * FOUR_BYTES + day(r);
+    match kind(r) {
+        2 => contract(r) * FOUR_BYTES + day(r),
+        5 => 0,
+        _ => contract(r),
     }
-    if k == 5 {
-        return 0;
-    }
-    contract(r)
 }
 
 // What entries go by: the kind, and then what entries of their kind go by.
@@ -43,10 +40,8 @@ fn keys_of(entries: &[u8]) -> [usize; MOST_RECORDS]
 {
     let mut keys = [0usize; MOST_RECORDS];
     let count = record_count(entries);
-    let mut k = 0;
-    while k < count {
-        keys[k] = rank(record_at(entries, k));
-        k += 1;
+    for (k, key) in keys[..count].iter_mut().enumerate() {
+        *key = rank(record_at(entries, k));
     }
     keys
 }
@@ -58,9 +53,7 @@ pub(crate) fn order_of(entries: &[u8]) -> [u16; MOST_RECORDS]
 {
     let keys = keys_of(entries);
     let mut order = [0u16; MOST_RECORDS];
-    let mut spare = [0u16; MOST_RECORDS];
     let count = record_count(entries);
-    number_up(&mut order);
-    sort(&keys, &mut order[..count], &mut spare);
+    sort(&keys, &mut order[..count]);
     order
 }

@@ -5,8 +5,7 @@ ghost use Rattle.writing.specs.Order.{Ordered};
 ghost use Rattle.writing.specs.Written.{as_entered, verdict_on};
 
 use crate::checking::check_written;
-use crate::filling::wide;
-use crate::merging::place_at;
+use crate::places::place_at;
 use account::answers::{Refusal, number_of, record_of, refusal_of};
 
 fn as_entered(order: &[u16], answer: Result<(), Refusal>) -> Result<(), Refusal>
@@ -16,7 +15,7 @@ fn as_entered(order: &[u16], answer: Result<(), Refusal>) -> Result<(), Refusal>
     if number < 3 {
         return answer;
     }
-    refusal_of(number, wide(place_at(order, record_of(answer))))
+    refusal_of(number, usize::from(place_at(order, record_of(answer))))
 }
 
 pub(crate) fn verdict_on(entries: &[u8], order: &[u16]) -> Result<(), Refusal>

@@ -12,10 +12,10 @@ use Rattle.committee.specs.Committee.{most_accounts, committee_numbers}
 use Rattle.committee.specs.code.Sums.{AccountOf}
 use Rattle.committee.proofs.Going.{Going, begin, ends, go_on, end, wider, many, differ, lacking, all}
 use Rattle.committee.proofs.answer_committee.Goals as goal
-use Rattle.committee.proofs.answer_committee.Goals.{After-shared_slice_known-in-loop-i-1}
+use Rattle.committee.proofs.answer_committee.Goals.{In-loop-i}
 
 -- the account that is answered next stands within the bytes
-within : (c : After-shared_slice_known-in-loop-i-1) →
+within : (c : In-loop-i) →
     let s = c.args in
     c.loop-i.at + get_or s.lengths.now c.loop-i.i 0 ≤ length s.accounts.now
 within c =
@@ -55,11 +55,11 @@ loop-i-init c =
 
 pub overflow_add-end : goal.overflow_add-end
 overflow_add-end c =
-    let h = within c in
+    let h = within (goal.at.overflow_add-end c).In-loop-i in
     search (rules, h)
 
-pub with_account-next-requires : goal.with_account-next-requires
-with_account-next-requires c =
+pub with_account-sums-requires : goal.with_account-sums-requires
+with_account-sums-requires c =
     let l = c.loop-i in
     let t = c.loop-i-test.true in
     let few = c.if-count-gt-MOST_ACCOUNTS.false in
@@ -67,16 +67,12 @@ with_account-next-requires c =
     let margin = is.margin_most in
     (wider l.i most_accounts l.sums (omega (arith, t, few)) l.invariant.small, omega (arith, margin), is.credit_most, is.above_most)
 
-pub loop-i-smaller : goal.loop-i-smaller
-loop-i-smaller c =
-    let t = c.loop-i-test.true in omega (arith, t)
-
 pub loop-i-preserved : goal.loop-i-preserved
 loop-i-preserved c =
     let s = c.args in
     let l = c.loop-i in
     let a = c.answer_account-account in
-    let w = c.with_account-next in
+    let w = c.with_account-sums in
     let n = get_or s.lengths.now l.i 0 in
     let part : l.at + n - l.at ≡ n = omega arith in
     let more : l.i + 1 ≡ suc l.i = omega arith in

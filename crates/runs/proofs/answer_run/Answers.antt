@@ -11,10 +11,10 @@ use Rattle.questions.specs.Questions.{figures_answer, after_figures}
 use Rattle.margin.specs.Places.{at_place}
 use Rattle.runs.proofs.RunLaws.{Going, begin, room_here, outcome_here, ends, go_on, end, differ, few_figures, few_outcomes, all}
 use Rattle.runs.proofs.answer_run.Goals as goal
-use Rattle.runs.proofs.answer_run.Goals.{After-shared_slice_known-in-loop-i-1}
+use Rattle.runs.proofs.answer_run.Goals.{In-loop-i}
 
 -- the account that is answered next stands within the bytes
-within : (c : After-shared_slice_known-in-loop-i-1) →
+within : (c : In-loop-i) →
     let s = c.args in
     c.loop-i.at + get_or s.lengths.now c.loop-i.i 0 ≤ length s.accounts.now
 within c =
@@ -57,7 +57,7 @@ loop-i-init c =
 
 pub overflow_add-end : goal.overflow_add-end
 overflow_add-end c =
-    let h = within c in
+    let h = within (goal.at.overflow_add-end c).In-loop-i in
     search (rules, h)
 
 pub place_figures-answer-requires : goal.place_figures-answer-requires
@@ -78,11 +78,6 @@ place_outcome-requires c =
     outcome_here s.accounts.now s.lengths.now s.out.now s.outcomes.now
     (omega (arith, a)) (omega (arith, b))
     l.out l.outcomes l.at l.i l.invariant c.loop-i-test.true
-
-pub loop-i-smaller : goal.loop-i-smaller
-loop-i-smaller c =
-    let t = c.loop-i-test.true in
-    omega (arith, t)
 
 pub loop-i-preserved : goal.loop-i-preserved
 loop-i-preserved c =

@@ -6,6 +6,7 @@ use Prim.Native.Nat.{ℕ}
 use lib.Dec.{ltb}
 use Rattle.exact.specs.Lists.{one_if}
 use Rattle.formulas.specs.Margin.{risk}
+use Rattle.committee.proofs.Flags.{flag}
 use Rattle.committee.proofs.contracts.found_at.Goals as goal
 
 pub above_risk-above-requires : goal.above_risk-above-requires
@@ -27,9 +28,9 @@ returns c =
     let credit = c.amount_at-credit.ensures in
     let minimum = c.amount_at-minimum.ensures in
     record {
-      margin_is = c.amount_at-margin.ensures;
-      credits_are = c.one_if.ensures ∙ ap (λ (n : ℕ). one_if (ltb 0 n)) credit;
+      margin_is = c.amount_at.ensures;
+      credits_are = c.from.ensures ∙ flag (ltb 0 c.amount_at-credit.result.0) ∙ ap (λ (n : ℕ). one_if (ltb 0 n)) credit;
       above_is =
-          c.one_if-2.ensures
+          c.from-2.ensures ∙ flag c.above_risk-above.result
           ∙ ap one_if (c.above_risk-above.ensures ∙ (λ i. ltb (risk (scanning i) (interprompt i) (prompt i) (credit i)) (minimum i)));
     }

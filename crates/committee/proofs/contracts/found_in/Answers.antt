@@ -32,14 +32,6 @@ overflow_add-above c =
     let small = above_small c.args.numbers.now c.requires l.i l.margin l.credits l.above l.invariant t f.result f.ensures in
     omega (arith, l.invariant.above_most, t, small)
 
-pub overflow_add-i : goal.overflow_add-i
-overflow_add-i c =
-    let t = c.loop-i-test.true in omega (arith, t)
-
-pub loop-i-smaller : goal.loop-i-smaller
-loop-i-smaller c =
-    let t = c.loop-i-test.true in omega (arith, t)
-
 pub loop-i-preserved : goal.loop-i-preserved
 loop-i-preserved c =
     let l = c.loop-i in

@@ -1,12 +1,8 @@
 -- A contract after the other, over all places.
 -- Assumes nothing.
-use Prim.Native.Nat.{◌-◌}
 use Rattle.account.specs.Check.{most_contracts}
 use Rattle.committee.proofs.OverContracts.{SoFar}
 use Rattle.committee.proofs.contracts.found_in.Given as goal
 
 abbrev pub invariant-loop-i : goal.invariant-loop-i
 invariant-loop-i l = SoFar l.numbers l.i l.margin l.credits l.above
-
-abbrev pub decreases-loop-i : goal.decreases-loop-i
-decreases-loop-i l = most_contracts - l.i

@@ -2,11 +2,13 @@
 -- Assumes nothing.
 use mathlib.Core.Path.{ap, subst, subst⁻¹, ◌∙◌}
 use mathlib.Core.List.{List}
+use lib.Dec.{ltb}
 use lib.IntN.{ℤ}
 use Rattle.account.specs.Answers.{number_of}
 use Rattle.account.specs.Check.{most_contracts}
 use Rattle.committee.specs.code.Sums.{Fit, FoundIn}
 use Rattle.committee.proofs.Padded.{fit, account_is}
+use Rattle.committee.proofs.Flags.{flag}
 use Rattle.committee.proofs.figures.answer_account.Goals as goal
 
 pub found_in-found-requires : goal.found_in-found-requires
@@ -21,4 +23,4 @@ returns c =
     let found = c.found_in-found in
     account_is c.args.account.now found.result
     (subst (λ (xs : List ℤ). FoundIn xs most_contracts found.result) f.ensures.1 found.ensures)
-    n.result c.one_if-credit.result (n.ensures ∙ ap number_of f.ensures.0) c.one_if-credit.ensures
+    n.result c.from.result (n.ensures ∙ ap number_of f.ensures.0) (c.from.ensures ∙ flag (ltb 0 found.result.credits))

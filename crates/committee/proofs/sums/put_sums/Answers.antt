@@ -8,18 +8,13 @@ use mir.Val.{to_z, of_z}
 use borrow.Author.Rules.{rules}
 use lib.ListN.{length, length-map, length-set, get_or, set, drop, get_or-map}
 use lib.Seq.{paste, paste-suc, take_all}
-use Rattle.exact.proofs.Integers.{back}
+use Rattle.std.proofs.lemmas.Int.{to_z_pos}
 use Rattle.committee.specs.code.Sums.{sums_numbers}
 use Rattle.committee.proofs.SumLaws.{numbers-length, number_fits}
 use Rattle.committee.proofs.sums.put_sums.Goals as goal
 
 pub loop-k-init : goal.loop-k-init
 loop-k-init c = (refl, (zero-le, refl))
-
-pub as_signed-requires : goal.as_signed-requires
-as_signed-requires c =
-    let h = number_fits c.args.sums c.requires.0 c.loop-k.k in
-    omega (arith, c.number_at.ensures, h)
 
 pub offset_bounds-out-k : goal.offset_bounds-out-k
 offset_bounds-out-k c =
@@ -35,11 +30,10 @@ bounds-out-k c =
     let p = c.requires.1 in
     omega (arith, h, t, p)
 
-pub overflow_add-k : goal.overflow_add-k
-overflow_add-k c = let t = c.loop-k-test.true in omega (arith, t)
-
-pub loop-k-smaller : goal.loop-k-smaller
-loop-k-smaller c = let t = c.loop-k-test.true in omega (arith, t)
+pub overflow_cast-out : goal.overflow_cast-out
+overflow_cast-out c =
+    let h = number_fits c.args.sums c.requires.0 c.loop-k.k in
+    omega (arith, c.number_at.ensures, h)
 
 pub loop-k-preserved : goal.loop-k-preserved
 loop-k-preserved c =
@@ -52,9 +46,10 @@ loop-k-preserved c =
     let all = length-map numbers pos ∙ numbers-length c.args.sums long in
     let front : 0 + l.k ≡ l.k = omega arith in
     let more : suc l.k ≡ l.k + 1 = omega arith in
-    let written : to_z w64 (of_z w64 c.as_signed.result) ≡ get_or (map pos numbers) l.k (pos 0) =
-    back c.as_signed.result (record { sfits = c.as_signed.type_inv })
-    ∙ c.as_signed.ensures
+    let small = number_fits c.args.sums c.requires.0 l.k in
+    let signed : to_z w64 c.number_at.result ≡ pos c.number_at.result = to_z_pos w64 c.number_at.result (omega (arith, c.number_at.ensures, small)) in
+    let written : to_z w64 c.number_at.result ≡ get_or (map pos numbers) l.k (pos 0) =
+    signed
     ∙ ap pos c.number_at.ensures
     ∙ sym (get_or-map pos numbers l.k 0)
     in (

@@ -2,7 +2,7 @@
 -- Assumes nothing.
 use mathlib.Core.Path.{◌≡◌}
 use mathlib.Core.List.{map}
-use Prim.Native.Nat.{◌-◌, ◌≤◌}
+use Prim.Native.Nat.{◌≤◌}
 use lib.IntN.{pos}
 use lib.ListN.{length}
 use lib.Seq.{paste}
@@ -11,6 +11,3 @@ use Rattle.committee.proofs.sums.put_sums.Given as goal
 
 abbrev pub invariant-loop-k : goal.invariant-loop-k
 invariant-loop-k l = (l.out ≡ paste l.initial.out 0 (map pos (sums_numbers l.sums)) l.k) × ((l.k ≤ 24) × (length l.out ≡ length l.initial.out))
-
-abbrev pub decreases-loop-k : goal.decreases-loop-k
-decreases-loop-k l = 24 - l.k

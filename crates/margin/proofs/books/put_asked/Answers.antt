@@ -32,7 +32,7 @@ spread-places s = search rules
 -- the net deltas as plain numbers
 nets-long : (c : After-plain-nets) → length c.plain-nets.result ≡ prompt_places
 nets-long c =
-    ap length c.plain-nets.ensures ∙ length-map c.args.prompts.net _ ∙ net-places c.before.before.before
+    ap length c.plain-nets.ensures ∙ length-map c.args.prompts.net _ ∙ (search rules)
 
 same : (c : After-plain-nets) →
     let p = c.args.prompts in
@@ -61,6 +61,6 @@ run_table-requires c = (
   ((tier-places (goal.at.run_table-requires c).Start, nets-long (goal.at.run_table-requires c).After-plain-nets), omega (arith, c.requires.1)),
 )
 
-pub returns : goal.returns
-returns c =
-    c.run_table.ensures ∙ ap (λ (q : Prompts). sets c.args.out.now 0 (book_by (steps_of c.args.table) (open_of q))) (same (goal.at.returns c).After-plain-nets)
+pub returns-else-table-eq0 : goal.returns-else-table-eq0
+returns-else-table-eq0 c =
+    c.run_table.ensures ∙ ap (λ (q : Prompts). sets c.args.out.now 0 (book_by (steps_of c.args.table) (open_of q))) (same (goal.at.returns-else-table-eq0 c).After-plain-nets)

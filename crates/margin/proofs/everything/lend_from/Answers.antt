@@ -13,13 +13,13 @@ pub put_from-requires : goal.put_from-requires
 put_from-requires c =
     (c.requires.0, (c.requires.1, omega (arith, c.figures_count.ensures, c.if-figures_count-figures.true)))
 
-pub put_from-requires-2 : goal.put_from-requires-2
-put_from-requires-2 c =
+pub put_from-requires-else-figures_count-figures : goal.put_from-requires-else-figures_count-figures
+put_from-requires-else-figures_count-figures c =
     let few = few_contracts c.args.morning.now c.args.noon.now (account_in c.args.account.now) c.requires.0 in
     (c.requires.0, (c.requires.1, omega (arith, few)))
 
-pub returns : goal.returns
-returns c =
+pub returns-else-figures_count-figures : goal.returns-else-figures_count-figures
+returns-else-figures_count-figures c =
     λ whole t.
     unlent_everything
     (omega (
@@ -30,4 +30,4 @@ returns c =
       c.figures_count.ensures,
       c.if-figures_count-figures.false,
     ))
-    (c.put_from-2.ensures whole t)
+    (c.put_from-else-figures_count-figures.ensures whole t)

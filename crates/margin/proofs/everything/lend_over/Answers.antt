@@ -6,8 +6,8 @@ use Rattle.margin.proofs.QuestionLaws.{figures-length}
 use Rattle.margin.proofs.WalkedLaws.{unlent_everything}
 use Rattle.margin.proofs.everything.lend_over.Goals as goal
 
-pub returns : goal.returns
-returns c =
+pub returns-else-figures_count-figures : goal.returns-else-figures_count-figures
+returns-else-figures_count-figures c =
     unlent_everything
     (omega (
       arith,
@@ -16,4 +16,4 @@ returns c =
       c.figures_count.ensures,
       c.if-figures_count-figures.false,
     ))
-    c.put_over-2.ensures
+    c.put_over-else-figures_count-figures.ensures

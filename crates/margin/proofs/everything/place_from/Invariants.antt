@@ -1,7 +1,6 @@
 -- A contract after the other, by what its rows come to, for every account that the positions tell of.
 -- Assumes nothing.
 use mathlib.Core.List.{List}
-use Prim.Native.Nat.{◌-◌}
 use Rattle.record.specs.Layout.{Record}
 use Rattle.account.specs.Joined.{account_of}
 use Rattle.margin.specs.code.Positions.{PositionsTell}
@@ -12,6 +11,3 @@ abbrev pub invariant-loop-i : goal.invariant-loop-i
 invariant-loop-i l =
     (whole : List Record) → PositionsTell (account_of l.morning l.noon) l.positions whole
     → WalkedTo whole l.count l.initial.figures l.initial.books l.initial.uses l.i l.figures l.books l.uses l.tiers l.nets l.units l.prices l.sizes l.total
-
-abbrev pub decreases-loop-i : goal.decreases-loop-i
-decreases-loop-i l = l.count - l.i

@@ -55,15 +55,6 @@ overflow_add-total c =
     let margin = c.place_line-margin.ensures.margin.1 in
     omega (arith, c.loop-i-test.true)
 
-pub overflow_add-i : goal.overflow_add-i
-overflow_add-i c =
-    let h = few (goal.at.overflow_add-i c).After-contract_total-count in
-    omega (arith, c.loop-i-test.true)
-
-pub loop-i-smaller : goal.loop-i-smaller
-loop-i-smaller c =
-    omega (arith, c.loop-i-test.true)
-
 pub loop-i-preserved : goal.loop-i-preserved
 loop-i-preserved c =
     let r = c.place_line-margin in

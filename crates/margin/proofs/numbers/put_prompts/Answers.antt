@@ -5,6 +5,7 @@ use native.Mathlib.Omega.{arith}
 use lib.IntN.{pos}
 use lib.ListN.{get_or}
 use lib.Seq.{sets}
+use Rattle.std.proofs.Common.{rules}
 use Rattle.exact.proofs.Integers.{back}
 use Rattle.margin.proofs.NumberLaws.{start, next, finish, threes_step, threes-none}
 use Rattle.margin.proofs.numbers.put_prompts.Goals as goal
@@ -22,9 +23,9 @@ loop-i-preserved c =
     let nets = c.args.nets.now in
     let used = c.args.used.now in
     let unused = c.args.unused.now in
-    let net = back (get_or nets l.i (pos 0)) (record { sfits = c.net-1.given }) in
-    let taken = back (get_or used l.i (pos 0)) (record { sfits = c.taken-1.given }) in
-    let left = back (get_or unused l.i (pos 0)) (record { sfits = c.left-1.given }) in (
+    let net = back (get_or nets l.i (pos 0)) (search rules) in
+    let taken = back (get_or used l.i (pos 0)) (search rules) in
+    let left = back (get_or unused l.i (pos 0)) (search rules) in (
       next l.i (l.i * 3) ((l.i + 1) * 3) l.out c.put_three.new.out
           (get_or nets l.i (pos 0) ∷ get_or used l.i (pos 0) ∷ get_or unused l.i (pos 0) ∷ [])
           l.invariant.0 (omega arith)

@@ -5,6 +5,7 @@ use native.Mathlib.Omega.{arith}
 use lib.IntN.{pos}
 use lib.ListN.{get_or}
 use lib.Seq.{sets}
+use Rattle.std.proofs.Common.{rules}
 use Rattle.exact.proofs.Integers.{back}
 use Rattle.margin.proofs.NumberLaws.{start, next, finish, rest_step, rest_none, rest_listed}
 use Rattle.margin.proofs.numbers.put_unspread.Goals as goal
@@ -20,7 +21,7 @@ pub loop-i-preserved : goal.loop-i-preserved
 loop-i-preserved c =
     let l = c.loop-i in
     let nets = c.args.nets.now in
-    let net = back (get_or nets l.i (pos 0)) (record { sfits = c.net-1.given }) in (
+    let net = back (get_or nets l.i (pos 0)) (search rules) in (
       next l.i (l.i * 3) ((l.i + 1) * 3) l.out c.put_three.new.out (get_or nets l.i (pos 0) ∷ pos 0 ∷ get_or nets l.i (pos 0) ∷ [])
           l.invariant.0 (omega arith) (rest_step c.args.prompts nets c.requires.1.0 l.i (omega arith))
           (c.put_three.ensures ∙ (λ j. sets l.out (l.i * 3) (net j ∷ pos 0 ∷ net j ∷ []))) (omega arith),

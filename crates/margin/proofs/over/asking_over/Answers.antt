@@ -36,8 +36,8 @@ pub asking_of-requires : goal.asking_of-requires
 asking_of-requires c =
     (c.requires.0, asked_small (account_of c.args.morning.now c.args.noon.now) c.requires.0.lawful c.args.question c.requires.1 c.if-question-eq-TABLE.false)
 
-pub returns : goal.returns
-returns c =
+pub returns-else-question-eq-TABLE : goal.returns-else-question-eq-TABLE
+returns-else-question-eq-TABLE c =
     let a = account_of c.args.morning.now c.args.noon.now in
     let q = c.args.question in
     subst

@@ -38,7 +38,7 @@ module _ (c : After-rows_part-rows) where
   rows_are : records c.rows_part-rows.result.now ≡ rows_of c.contract_number-c.result whole
   rows_are =
       let n = c.contract_number-c.result in
-      let h = small (goal.at.rows_net-net-requires c).After-contract_number-c in
+      let h = small (goal.at.rows_net-requires c).After-contract_number-c in
       let st = c.requires.0 in
       of_contract_lem whole st.lawful n h 3 (lit≤ tt) c.rows_part-rows.result.now
       (c.rows_part-rows.ensures (account_in c.args.account.now) n st h c.whereabouts_of-w.ensures)
@@ -46,8 +46,8 @@ module _ (c : After-rows_part-rows) where
 pub whereabouts_of-w-requires : goal.whereabouts_of-w-requires
 whereabouts_of-w-requires c = small c
 
-pub rows_net-net-requires : goal.rows_net-net-requires
-rows_net-net-requires c =
+pub rows_net-requires : goal.rows_net-requires
+rows_net-requires c =
     subst⁻¹ RowsFit (rows_are c) (contract_within (whole c) c.requires.0.lawful [] c.contract_number-c.result none_within).rows_within
 
 pub overflow_cast-result : goal.overflow_cast-result
@@ -59,6 +59,6 @@ returns c =
     let m = c.args.morning.now in
     let n = c.args.noon.now in
     let k = c.contract_number-c in
-    rows_tier (account_of m n) c.requires.0.lawful k.result (get_or (contracts_of (account_of m n)) c.args.i []) c.rows_net-net.result.0
+    rows_tier (account_of m n) c.requires.0.lawful k.result (get_or (contracts_of (account_of m n)) c.args.i []) c.rows_net.result.0
     (number_at m n (account_in c.args.account.now) c.requires.0 c.args.i c.requires.1 k.result k.ensures) (small (goal.at.returns c).After-contract_number-c)
-    (subst (λ (rows : List Record). Sized most_delta (rows_net rows) c.rows_net-net.result.0) (rows_are (goal.at.returns c).After-rows_part-rows) c.rows_net-net.ensures)
+    (subst (λ (rows : List Record). Sized most_delta (rows_net rows) c.rows_net.result.0) (rows_are (goal.at.returns c).After-rows_part-rows) c.rows_net.ensures)

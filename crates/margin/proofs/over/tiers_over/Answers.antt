@@ -34,10 +34,6 @@ pub bounds-nets-i : goal.bounds-nets-i
 bounds-nets-i c =
     let h = few (goal.at.bounds-nets-i c).After-contract_total-count in omega arith
 
-pub overflow_add-i : goal.overflow_add-i
-overflow_add-i c =
-    let h = few (goal.at.overflow_add-i c).After-contract_total-count in omega arith
-
 pub loop-i-preserved : goal.loop-i-preserved
 loop-i-preserved c =
     let l = c.loop-i in

@@ -73,8 +73,8 @@ asking_with-requires c =
       ),
     )
 
-pub returns : goal.returns
-returns c =
+pub returns-else-question-eq-TABLE : goal.returns-else-question-eq-TABLE
+returns-else-question-eq-TABLE c =
     let q = c.args.question in
     λ whole t.
     subst
@@ -82,4 +82,4 @@ returns c =
     (cond b (map as_tier (contracts whole)) (opens_of (parts_of whole q))) c.asking_with.result)
     (sym (ne_eqb q table_question c.if-question-eq-TABLE.false))
     (asks_beside (account_of c.args.morning.now c.args.noon.now) whole t.beside q (get_or c.args.positions.at q no_position)
-    (t.positions.each q (small (goal.at.returns c).Else-question-eq-TABLE)) c.asking_with.result c.asking_with.ensures)
+    (t.positions.each q (small (goal.at.returns-else-question-eq-TABLE c).Else-question-eq-TABLE)) c.asking_with.result c.asking_with.ensures)

@@ -11,17 +11,17 @@ use Rattle.account.specs.Check.{most_contracts}
 use Rattle.margin.proofs.PositionsLaws.{placed_none, placed_next, placed_all}
 use Rattle.margin.proofs.StandLaws.{few_contracts, number_at, listed_at, own_number}
 use Rattle.margin.proofs.positions.positions_lent.Goals as goal
-use Rattle.margin.proofs.positions.positions_lent.Goals.{After-contract_number-c, After-contract_total-count}
+use Rattle.margin.proofs.positions.positions_lent.Goals.{After-contract_number-c, After-contract_total-i-end}
 
 -- an account has at most sixteen contracts
-few : (c : After-contract_total-count) → c.contract_total-count.result ≤ most_contracts
+few : (c : After-contract_total-i-end) → c.contract_total-i-end.result ≤ most_contracts
 few c =
-    omega (arith, c.contract_total-count.ensures, few_contracts c.args.morning.now c.args.noon.now (account_in c.args.account.now) c.requires)
+    omega (arith, c.contract_total-i-end.ensures, few_contracts c.args.morning.now c.args.noon.now (account_in c.args.account.now) c.requires)
 
 -- the turn's contract is listed, and has this number
 within : (c : After-contract_number-c) → c.loop-i.i < (account_in c.args.account.now).contracts
 within c =
-    omega (arith, c.loop-i-test.true, c.contract_total-count.ensures)
+    omega (arith, c.loop-i-test.true, c.contract_total-i-end.ensures)
 
 number : (c : After-contract_number-c) →
     c.contract_number-c.result ≡ contract (get_or (contracts_of (account_of c.args.morning.now c.args.noon.now)) c.loop-i.i [])
@@ -42,7 +42,7 @@ small c =
 
 pub loop-i-init : goal.loop-i-init
 loop-i-init c =
-    (placed_none (account_of c.args.morning.now c.args.noon.now) c.flat-at.result c.flat-at.ensures, omega arith)
+    placed_none (account_of c.args.morning.now c.args.noon.now) c.flat-at.result c.flat-at.ensures
 
 pub position_in-requires : goal.position_in-requires
 position_in-requires c =
@@ -54,22 +54,12 @@ offset_bounds-at-c c = let h = small (goal.at.offset_bounds-at-c c).After-contra
 pub bounds-at-c : goal.bounds-at-c
 bounds-at-c c = let h = small (goal.at.bounds-at-c c).After-contract_number-c in omega arith
 
-pub overflow_add-i : goal.overflow_add-i
-overflow_add-i c =
-    let h = few (goal.at.overflow_add-i c).After-contract_total-count in
-    omega (arith, c.loop-i-test.true)
-
-pub loop-i-smaller : goal.loop-i-smaller
-loop-i-smaller c = omega (arith, c.loop-i-test.true)
-
 pub loop-i-preserved : goal.loop-i-preserved
 loop-i-preserved c =
     let l = c.loop-i in
-    let k = c.contract_number-c in (
-      placed_next (account_of c.args.morning.now c.args.noon.now) l.i l.at k.result c.position_in.result l.invariant.0
-          (small (goal.at.loop-i-preserved c).After-contract_number-c) (number (goal.at.loop-i-preserved c).After-contract_number-c) c.position_in.ensures,
-      omega (arith, c.loop-i-test.true),
-    )
+    let k = c.contract_number-c in
+    placed_next (account_of c.args.morning.now c.args.noon.now) l.i l.at k.result c.position_in.result l.invariant
+    (small (goal.at.loop-i-preserved c).After-contract_number-c) (number (goal.at.loop-i-preserved c).After-contract_number-c) c.position_in.ensures
 
 pub returns : goal.returns
 returns c =
@@ -78,7 +68,6 @@ returns c =
     (omega (
       arith,
       c.loop-i-test.false,
-      l.invariant.1,
-      c.contract_total-count.ensures,
+      c.contract_total-i-end.ensures,
       c.requires.places.contracts,
-    )) l.invariant.0 (c.record_total.ensures ∙ c.requires.places.all)
+    )) l.invariant (c.record_total.ensures ∙ c.requires.places.all)

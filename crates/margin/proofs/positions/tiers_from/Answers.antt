@@ -90,15 +90,6 @@ bounds-nets-i c =
     let h = few (goal.at.bounds-nets-i c).After-contract_total-count in
     omega (arith, c.loop-i-test.true)
 
-pub overflow_add-i : goal.overflow_add-i
-overflow_add-i c =
-    let h = few (goal.at.overflow_add-i c).After-contract_total-count in
-    omega (arith, c.loop-i-test.true)
-
-pub loop-i-smaller : goal.loop-i-smaller
-loop-i-smaller c =
-    omega (arith, c.loop-i-test.true)
-
 pub loop-i-preserved : goal.loop-i-preserved
 loop-i-preserved c =
     let l = c.loop-i in

@@ -1,7 +1,7 @@
 -- The contracts are put in place one after the other, each by what its rows come to.
 -- Assumes nothing.
 use mathlib.Core.List.{List}
-use Prim.Native.Nat.{◌-◌, ◌≤◌}
+use Prim.Native.Nat.{◌≤◌}
 use Rattle.record.specs.Layout.{Record}
 use Rattle.account.specs.Joined.{account_of}
 use Rattle.margin.specs.code.Positions.{PositionsTell}
@@ -11,6 +11,3 @@ use Rattle.margin.proofs.positions.tiers_from.Given as goal
 abbrev pub invariant-loop-i : goal.invariant-loop-i
 invariant-loop-i l =
     ((whole : List Record) → PositionsTell (account_of l.morning l.noon) l.positions whole → TieredTo whole l.i l.tiers l.nets) × (l.i ≤ l.count)
-
-abbrev pub decreases-loop-i : goal.decreases-loop-i
-decreases-loop-i l = l.count - l.i

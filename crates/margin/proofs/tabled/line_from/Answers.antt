@@ -10,12 +10,12 @@ pub returns : goal.returns
 returns c =
     let out = c.args.out.now in
     let at = c.args.at in
-    let scanning = seen nat_abs (get_or out (at + 2) (pos 0)) (record { sfits = c.magnitude-arg-1.given }) c.magnitude.ensures in
-    let interprompt = seen nat_abs (get_or out (at + 3) (pos 0)) (record { sfits = c.magnitude-arg-2-1.given }) c.magnitude-2.ensures in
-    let prompt = seen nat_abs (get_or out (at + 4) (pos 0)) (record { sfits = c.magnitude-arg-3-1.given }) c.magnitude-3.ensures in
-    let minimum = seen nat_abs (get_or out (at + 6) (pos 0)) (record { sfits = c.magnitude-arg-4-1.given }) c.magnitude-4.ensures in
-    let number = seen nat_abs (get_or out at (pos 0)) (record { sfits = c.magnitude-arg-5-1.given }) c.magnitude-5.ensures in
-    let active = seen nat_abs (get_or out (at + 1) (pos 0)) (record { sfits = c.magnitude-arg-6-1.given }) c.magnitude-6.ensures in
+    let number = seen nat_abs (get_or out at (pos 0)) (record { sfits = c.magnitude-arg-1.given }) c.magnitude.ensures in
+    let active = seen nat_abs (get_or out (at + 1) (pos 0)) (record { sfits = c.magnitude-arg-2-1.given }) c.magnitude-2.ensures in
+    let scanning = seen nat_abs (get_or out (at + 2) (pos 0)) (record { sfits = c.magnitude-arg-3-1.given }) c.magnitude-3.ensures in
+    let interprompt = seen nat_abs (get_or out (at + 3) (pos 0)) (record { sfits = c.magnitude-arg-4-1.given }) c.magnitude-4.ensures in
+    let prompt = seen nat_abs (get_or out (at + 4) (pos 0)) (record { sfits = c.magnitude-arg-5-1.given }) c.magnitude-5.ensures in
+    let minimum = seen nat_abs (get_or out (at + 6) (pos 0)) (record { sfits = c.magnitude-arg-6-1.given }) c.magnitude-6.ensures in
     λ j. record {
       contract = number j;
       unit = 0;

@@ -5,13 +5,14 @@ use lib.IntN.{nat_abs}
 use lib.ListN.{set}
 use mir.Syntax.{w64}
 use mir.Val.{SFits}
+use Rattle.std.proofs.Common.{rules}
 use Rattle.exact.proofs.Integers.{back, seen}
 use Rattle.margin.proofs.tabled.place_line.Goals as goal
 
 pub returns : goal.returns
 returns c =
     let l = c.args.line in
-    let own : SFits w64 l.net.0 = record { sfits = c.struct_told-1.given.0.1 } in record {
+    let own : SFits w64 l.net.0 = search rules in record {
       placed = record {
         written = c.put_line-margin.ensures.written;
         tier-put = refl;

@@ -46,12 +46,12 @@ line_from-line-requires c =
     let l = c.loop-i in
     omega (arith, c.loop-i-test.true, c.requires.1.0, l.invariant.1.1.0)
 
-pub offset_bounds-earned-c : goal.offset_bounds-earned-c
-offset_bounds-earned-c c = let h = (within (goal.at.offset_bounds-earned-c c).After-line_from-line).contract_within in omega arith
+pub offset_bounds-earned-line : goal.offset_bounds-earned-line
+offset_bounds-earned-line c = let h = (within (goal.at.offset_bounds-earned-line c).After-line_from-line).contract_within in omega arith
 
-pub bounds-earned-c : goal.bounds-earned-c
-bounds-earned-c c =
-    let h = (within (goal.at.bounds-earned-c c).After-line_from-line).contract_within in
+pub bounds-earned-line : goal.bounds-earned-line
+bounds-earned-line c =
+    let h = (within (goal.at.bounds-earned-line c).After-line_from-line).contract_within in
     omega (arith, c.requires.1.1)
 
 pub put_line-margin-requires : goal.put_line-margin-requires
@@ -68,14 +68,6 @@ overflow_add-total c =
     let small = l.invariant.1.0.small in
     let most = c.requires.0.most in
     let margin = c.put_line-margin.ensures.margin.1 in
-    omega (arith, c.loop-i-test.true)
-
-pub overflow_add-i : goal.overflow_add-i
-overflow_add-i c =
-    omega (arith, c.loop-i-test.true, c.requires.0.most)
-
-pub loop-i-smaller : goal.loop-i-smaller
-loop-i-smaller c =
     omega (arith, c.loop-i-test.true)
 
 pub loop-i-preserved : goal.loop-i-preserved

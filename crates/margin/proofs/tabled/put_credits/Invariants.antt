@@ -2,7 +2,7 @@
 -- Assumes nothing.
 use mathlib.Core.Path.{◌≡◌}
 use mathlib.Core.List.{List}
-use Prim.Native.Nat.{ℕ, ◌*◌, ◌-◌, ◌≤◌}
+use Prim.Native.Nat.{ℕ, ◌*◌, ◌≤◌}
 use lib.IntN.{ℤ, pos}
 use lib.ListN.{length, get_or}
 use lib.Seq.{sets}
@@ -23,6 +23,3 @@ invariant-loop-i l =
     (l.i * figures_each) l.out
     × (sums.ToGo l.count (3 * most_risk) (total_on l.count (lines_at l.initial.out) (credits l.earned l.initial.out)) l.i l.total
     × ((length l.out ≡ length l.initial.out) × ((k : ℕ) → l.i * figures_each ≤ k → get_or l.out k (pos 0) ≡ get_or l.initial.out k (pos 0))))
-
-abbrev pub decreases-loop-i : goal.decreases-loop-i
-decreases-loop-i l = l.count - l.i

@@ -29,7 +29,7 @@ loop-i-preserved c =
           l.invariant.0 (omega arith)
           (slice-cons l.i c.args.count (deltas_in deltas) (pos 0) (omega arith) (omega arith)
           ∙ ap₂ (λ (z : ℤ) (k : ℕ). z ∷ slice k c.args.count (deltas_in deltas)) (delta_at_lem deltas l.i) (sym (add-one l.i)))
-          (ap (λ (z : ℤ). set l.out (c.args.at + l.i) z) (back here (record { sfits = c.struct_told-1.given.0.1 }))) (omega arith),
+          (ap (λ (z : ℤ). set l.out (c.args.at + l.i) z) (back here (search rules))) (omega arith),
       simp length-set l.invariant.1,
     )
 

@@ -63,14 +63,14 @@ overflow_add-at c =
           l.left l.left l.out l.out l.out no_spread l.invariant.0 c.loop-i-test.true,
     )
 
-pub put_step-rest-requires : goal.put_step-rest-requires
-put_step-rest-requires c =
+pub put_step-left-requires : goal.put_step-left-requires
+put_step-left-requires c =
     let l = c.loop-i in (
-      second_sound c.args.table (spread-places (goal.at.put_step-rest-requires c).Start) (sound-table (goal.at.put_step-rest-requires c).Start) c.args.prompts.count _ l.i l.at l.left
+      second_sound c.args.table (spread-places (goal.at.put_step-left-requires c).Start) (sound-table (goal.at.put_step-left-requires c).Start) c.args.prompts.count _ l.i l.at l.left
           c.put_step-between.result l.left l.out c.put_step-between.new.out l.out no_spread l.invariant.0
           c.loop-i-test.true c.put_step-between.ensures.0 c.put_step-between.ensures.1,
       second_room
-          c.args.table (spread-places (goal.at.put_step-rest-requires c).Start) (sound-table (goal.at.put_step-rest-requires c).Start) c.args.prompts.count _ l.i l.at l.left c.put_step-between.result
+          c.args.table (spread-places (goal.at.put_step-left-requires c).Start) (sound-table (goal.at.put_step-left-requires c).Start) c.args.prompts.count _ l.i l.at l.left c.put_step-between.result
           l.left l.out c.put_step-between.new.out l.out no_spread l.invariant.0 c.loop-i-test.true
           c.put_step-between.ensures.0 c.put_step-between.ensures.1,
     )
@@ -93,16 +93,16 @@ pub loop-i-preserved : goal.loop-i-preserved
 loop-i-preserved c =
     let l = c.loop-i in (
       put_next c.args.table (spread-places (goal.at.loop-i-preserved c).Start) (sound-table (goal.at.loop-i-preserved c).Start) c.args.prompts.count _ l.i l.at l.left
-          c.put_step-between.result c.put_step-rest.result l.out
-          c.put_step-between.new.out c.put_step-rest.new.out no_spread l.invariant.0
+          c.put_step-between.result c.put_step-left.result l.out
+          c.put_step-between.new.out c.put_step-left.new.out no_spread l.invariant.0
           c.loop-i-test.true c.put_step-between.ensures.0
-          c.put_step-between.ensures.1 c.put_step-rest.ensures.0 c.put_step-rest.ensures.1,
+          c.put_step-between.ensures.1 c.put_step-left.ensures.0 c.put_step-left.ensures.1,
       put-length
           c.args.table (spread-places (goal.at.loop-i-preserved c).Start) (sound-table (goal.at.loop-i-preserved c).Start) c.args.prompts.count _ l.i l.at l.left
-          c.put_step-between.result c.put_step-rest.result l.out
-          c.put_step-between.new.out c.put_step-rest.new.out no_spread l.invariant.0
+          c.put_step-between.result c.put_step-left.result l.out
+          c.put_step-between.new.out c.put_step-left.new.out no_spread l.invariant.0
           c.loop-i-test.true c.put_step-between.ensures.0
-          c.put_step-between.ensures.1 c.put_step-rest.ensures.0 c.put_step-rest.ensures.1 ∙ l.invariant.1,
+          c.put_step-between.ensures.1 c.put_step-left.ensures.0 c.put_step-left.ensures.1 ∙ l.invariant.1,
     )
 
 pub shape_of-out : goal.shape_of-out

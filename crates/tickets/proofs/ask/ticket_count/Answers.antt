@@ -1,10 +1,13 @@
--- Whole tickets, and one more where bytes are left.
+-- What is left at the end counts as one.
 -- Assumes nothing.
-use Rattle.tickets.proofs.AskLaws.{whole-count, part_count}
+use Prim.Native.Nat.{◌+◌, ◌/◌}
+use native.Mathlib.Omega.{arith}
+use lib.ListN.{length}
+use Rattle.record.specs.Bytes.{record_bytes}
+use Rattle.account.proofs.Walk.{length_cut}
 use Rattle.tickets.proofs.ask.ticket_count.Goals as goal
 
-pub returns-then-tickets-eq0 : goal.returns-then-tickets-eq0
-returns-then-tickets-eq0 c = whole-count c.args.tickets.now c.if-tickets-eq0.true
-
 pub returns : goal.returns
-returns c = part_count c.args.tickets.now c.if-tickets-eq0.false
+returns c =
+    let t = c.args.tickets.now in
+    omega (arith, c.div_ceil.ensures, length_cut ((length t + 95) / record_bytes) t)

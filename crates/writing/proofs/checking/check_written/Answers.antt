@@ -23,7 +23,7 @@ inside e k n h l = omega (arith, count_same e)
 module _ (c : After-asked_of-c) where
   room_for : Holdable (written c.args.entries.now) c.loop-k.first c.loop-k.counts c.asked_of-c.result
   room_for =
-      turn_holdable c.loop-k.invariant (inside c.args.entries.now _ _ c.loop-k-test.true c.record_count-count.ensures) c.entry_at-r.ensures c.asked_of-c.ensures
+      turn_holdable c.loop-k.invariant (inside c.args.entries.now _ _ c.loop-k-test.true c.record_count-k-end.ensures) c.entry_at-r.ensures c.asked_of-c.ensures
 
 -- after a record without a fault: what it asked for, the head of its turn, and what the turn has done
 module _ (c : Else-number-ne0) where
@@ -33,20 +33,20 @@ module _ (c : Else-number-ne0) where
       c.loop-k.k
       c.entry_at-r.result.now
   passed =
-      turned c.loop-k.invariant (inside c.args.entries.now _ _ c.loop-k-test.true c.record_count-count.ensures) c.entry_at-r.ensures c.asked_of-c.ensures c.hold.ensures
+      turned c.loop-k.invariant (inside c.args.entries.now _ _ c.loop-k-test.true c.record_count-k-end.ensures) c.entry_at-r.ensures c.asked_of-c.ensures c.hold.ensures
       c.entry_before.ensures c.fault_by-number.ensures c.if-number-ne0.false
 
 -- fewer than 640 records stand before it
 few-before : (c : In-loop-k) → c.loop-k.k < most_records
 few-before c =
     let e = c.args.entries.now in
-    omega (arith, inside e _ _ c.loop-k-test.true c.record_count-count.ensures, count_same e, ltb-false 61440 (length e) c.requires.1.0)
+    omega (arith, inside e _ _ c.loop-k-test.true c.record_count-k-end.ensures, count_same e, ltb-false 61440 (length e) c.requires.1.0)
 
 -- no record has a fault
 ended : (c : After-loop-k) → Ended (written c.args.entries.now) c.loop-k.first c.loop-k.counts
 ended c =
     let e = c.args.entries.now in
-    let done : record_count (written e) ≤ c.loop-k.k = omega (arith, c.loop-k-test.false, c.record_count-count.ensures, count_same e) in
+    let done : record_count (written e) ≤ c.loop-k.k = omega (arith, c.loop-k-test.false, c.record_count-k-end.ensures, count_same e) in
     reading_ends c.loop-k.invariant done (long_same e ∙ c.requires.1.0) (cut_same e ∙ c.requires.1.1)
 
 pub loop-k-init : goal.loop-k-init
@@ -55,7 +55,7 @@ loop-k-init c =
 
 pub entry_at-r-requires : goal.entry_at-r-requires
 entry_at-r-requires c =
-    (c.requires.0, omega (arith, inside c.args.entries.now _ _ c.loop-k-test.true c.record_count-count.ensures, count_same c.args.entries.now))
+    (c.requires.0, omega (arith, inside c.args.entries.now _ _ c.loop-k-test.true c.record_count-k-end.ensures, count_same c.args.entries.now))
 
 pub hold-requires : goal.hold-requires
 hold-requires c =
@@ -63,7 +63,7 @@ hold-requires c =
 
 pub entry_before-requires : goal.entry_before-requires
 entry_before-requires c =
-    (c.requires.0, omega (arith, inside c.args.entries.now _ _ c.loop-k-test.true c.record_count-count.ensures, count_same c.args.entries.now))
+    (c.requires.0, omega (arith, inside c.args.entries.now _ _ c.loop-k-test.true c.record_count-k-end.ensures, count_same c.args.entries.now))
 
 pub fault_by-number-requires : goal.fault_by-number-requires
 fault_by-number-requires c =
@@ -74,7 +74,7 @@ pub returns-then-number-ne0 : goal.returns-then-number-ne0
 returns-then-number-ne0 c =
     let e = c.args.entries.now in
     c.refusal_of.ensures
-    ∙ turn_stops c.loop-k.invariant (inside e _ _ c.loop-k-test.true c.record_count-count.ensures) c.entry_at-r.ensures c.asked_of-c.ensures c.hold.ensures
+    ∙ turn_stops c.loop-k.invariant (inside e _ _ c.loop-k-test.true c.record_count-k-end.ensures) c.entry_at-r.ensures c.asked_of-c.ensures c.hold.ensures
     c.entry_before.ensures
     c.fault_by-number.ensures c.if-number-ne0.true (long_same e ∙ c.requires.1.0) (cut_same e ∙ c.requires.1.1)
 

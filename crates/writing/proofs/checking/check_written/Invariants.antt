@@ -1,12 +1,8 @@
 -- The loop of the check, with the prompts at hand; then the rates.
 -- Assumes nothing.
-use Prim.Native.Nat.{◌-◌}
 use Rattle.writing.specs.Written.{written}
 use Rattle.writing.proofs.Held.{Reading}
 use Rattle.writing.proofs.checking.check_written.Given as goal
 
 abbrev pub invariant-loop-k : goal.invariant-loop-k
 invariant-loop-k l = Reading (written l.entries) l.first l.counts l.prompts l.held l.k
-
-abbrev pub decreases-loop-k : goal.decreases-loop-k
-decreases-loop-k l = l.count - l.k

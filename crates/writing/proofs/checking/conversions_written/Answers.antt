@@ -9,7 +9,7 @@ use Rattle.account.specs.Conversions.{row_answer, Row}
 use Rattle.account.specs.Parts.{rates_of}
 use Rattle.account.specs.Records.{records, record_at, record_count}
 use Rattle.account.proofs.Lawful.{recorded}
-use Rattle.account.proofs.RateLaws.{rows_start, rows_next, rows_stop, rows_end}
+use Rattle.account.proofs.RateLaws.{rows_next, rows_stop, rows_end}
 use Rattle.writing.specs.Written.{written}
 use Rattle.writing.proofs.Held.{row_at}
 use Rattle.writing.proofs.Placed.{count_same}
@@ -18,7 +18,7 @@ use Rattle.writing.proofs.checking.conversions_written.Goals.{After-answer_at-an
 
 -- the record is one of the file
 within : (c : In-loop-k) → c.loop-k.k < record_count (written c.args.entries.now)
-within c = omega (arith, c.loop-k-test.true, c.record_count-count.ensures, count_same c.args.entries.now)
+within c = omega (arith, c.loop-k-test.true, c.record_count-k-end.ensures, count_same c.args.entries.now)
 
 -- the head of the turn, its record's place, the file, its rates, and what the record answers
 module _ (c : After-answer_at-answer) where
@@ -36,14 +36,6 @@ module _ (c : After-answer_at-answer) where
       c.answer_at-answer.ensures rates c.requires.1.rates (recorded file c.requires.1.accepted).ranges.rates
       ∙ ap (row_answer rates k) c.entry_at.ensures
       ∙ ap (λ (n : ℕ). row_answer rates n (record_at file k)) (sym (zero-add k))
-
-pub loop-k-init : goal.loop-k-init
-loop-k-init c =
-    let w = written c.args.entries.now in rows_start (rates_of (records w)) 0 w
-
-pub entry_at-requires : goal.entry_at-requires
-entry_at-requires c =
-    (c.requires.0, omega (arith, within c, count_same c.args.entries.now))
 
 pub answer_at-answer-requires : goal.answer_at-answer-requires
 answer_at-answer-requires c =
@@ -73,4 +65,4 @@ returns c =
     let l = c.loop-k in
     let e = c.args.entries.now in
     let w = written e in
-    sym (l.invariant ∙ rows_end (rates_of (records w)) 0 w l.k (omega (arith, c.loop-k-test.false, c.record_count-count.ensures, count_same e)))
+    sym (l.invariant ∙ rows_end (rates_of (records w)) 0 w l.k (omega (arith, c.loop-k-test.false, c.record_count-k-end.ensures, count_same e)))

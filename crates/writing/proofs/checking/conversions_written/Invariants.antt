@@ -1,6 +1,5 @@
 -- Record after record, until a row has a fault.
 -- Assumes nothing.
-use Prim.Native.Nat.{◌-◌}
 use mathlib.Core.Path.{◌≡◌}
 use Rattle.account.specs.Checked.{rates_checked}
 use Rattle.account.specs.Parts.{rates_of}
@@ -11,6 +10,3 @@ use Rattle.writing.proofs.checking.conversions_written.Given as goal
 
 abbrev pub invariant-loop-k : goal.invariant-loop-k
 invariant-loop-k l = rates_checked (records (written l.entries)) ≡ rows_from (rates_of (records (written l.entries))) 0 (written l.entries) l.k
-
-abbrev pub decreases-loop-k : goal.decreases-loop-k
-decreases-loop-k l = l.count - l.k

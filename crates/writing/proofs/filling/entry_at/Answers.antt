@@ -9,10 +9,10 @@ use Rattle.writing.proofs.filling.entry_at.Goals as goal
 pub whole_at-requires : goal.whole_at-requires
 whole_at-requires c =
     let p = place_within c.args.entries.now c.args.order.now c.requires.0 c.args.k c.requires.1 in
-    omega (arith, c.wide.ensures, c.place_at.ensures, p)
+    omega (arith, c.from.ensures, c.place_at.ensures, p)
 
 pub returns : goal.returns
 returns c =
     let e = c.args.entries.now in
-    c.whole_at.ensures ∙ ap (record_at e) (c.wide.ensures ∙ c.place_at.ensures)
+    c.whole_at.ensures ∙ ap (record_at e) (c.from.ensures ∙ c.place_at.ensures)
     ∙ entered_at e c.args.order.now c.requires.0 c.args.k c.requires.1

@@ -3,45 +3,17 @@ use mathlib.Core.Path.{ap, ◌∙◌}
 use native.Mathlib.Omega.{arith}
 use lib.ListN.{length}
 use Rattle.writing.specs.Written.{written}
-use Rattle.writing.proofs.Placed.{filling_start, filling_next, filling_ends, part_long, record_long, count_same}
+use Rattle.writing.proofs.Placed.{filling_next, part_long, record_long, count_same}
 use Rattle.writing.proofs.filling.fill.Goals as goal
 
-pub loop-i-init : goal.loop-i-init
-loop-i-init c =
-    let a = c.args in filling_start a.entries.now a.k a.n a.out.now
-
-pub overflow_add-k : goal.overflow_add-k
-overflow_add-k c =
-    omega (arith, c.requires.1.0, c.loop-i-test.true)
-
-pub entry_at-r-requires : goal.entry_at-r-requires
-entry_at-r-requires c =
-    (c.requires.0, omega (arith, c.requires.1.0, c.loop-i-test.true))
-
-pub overflow_mul-start : goal.overflow_mul-start
-overflow_mul-start c =
-    omega (arith, c.requires.1.0, c.loop-i-test.true)
-
-pub overflow_add-end : goal.overflow_add-end
-overflow_add-end c =
-    omega (arith, c.requires.1.0, c.loop-i-test.true)
-
-pub copy_bytes-requires : goal.copy_bytes-requires
-copy_bytes-requires c =
+pub copy_from_slice-requires : goal.copy_from_slice-requires
+copy_from_slice-requires c =
     let l = c.loop-i in
     let e = c.args.entries.now in
     let more = c.loop-i-test.true in
     let p = part_long e c.args.k c.args.n c.args.out.now l.out l.i l.invariant more c.requires.1.0 c.requires.1.1 in
     let r = ap length c.entry_at-r.ensures ∙ record_long (written e) (c.args.k + l.i) (omega (arith, more, c.requires.1.0, count_same e)) in
     omega (arith, p, r)
-
-pub overflow_add-i : goal.overflow_add-i
-overflow_add-i c =
-    omega (arith, c.loop-i-test.true)
-
-pub loop-i-smaller : goal.loop-i-smaller
-loop-i-smaller c =
-    omega (arith, c.loop-i-test.true)
 
 pub loop-i-preserved : goal.loop-i-preserved
 loop-i-preserved c =
@@ -50,13 +22,4 @@ loop-i-preserved c =
     let more = c.loop-i-test.true in
     filling_next e c.args.k c.args.n c.args.out.now l.out l.i l.invariant more c.requires.1.0 c.requires.1.1
     c.entry_at-r.ensures
-    c.copy_bytes.ensures
-
-pub shape_of-out : goal.shape_of-out
-shape_of-out c = c.loop-i.invariant.long
-
-pub returns : goal.returns
-returns c =
-    let a = c.args in
-    let l = c.loop-i in
-    filling_ends a.entries.now a.k a.n a.out.now l.out l.i l.invariant (omega (arith, c.loop-i-test.false))
+    c.copy_from_slice.ensures.after

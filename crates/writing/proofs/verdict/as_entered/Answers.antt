@@ -12,4 +12,4 @@ returns c =
     let a = c.args in
     entered_late a.order.now a.answer c.number_of-number.ensures
     c.if-number-lt3.false c.record_of.ensures c.place_at.ensures
-    c.wide.ensures c.refusal_of.ensures
+    c.from.ensures c.refusal_of.ensures

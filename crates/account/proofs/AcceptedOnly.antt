@@ -1,6 +1,7 @@
 -- What is accepted, by its number.
 -- Assumes nothing.
-use Rattle.std.specs.Prelude.{Ok, Err}
+use Rattle.std.specs.Prelude.{true, false, Result, Ok, Err}
+use Rattle.std.specs.Result.{is_err}
 use Prim.Native.Nat.{ℕ, suc}
 use native.Mathlib.Omega.{arith}
 use mathlib.Core.Path.{◌≡◌, refl, ◌∙◌}
@@ -56,3 +57,12 @@ given_refused (Err s) x e = cc
 pub then_given : {A : Type 0} (a : Answer) {x z : A} → and_then a (Ok x) ≡ Ok z → (a ≡ Ok tt) × (z ≡ x)
 then_given (Ok u) e = (refl, cc)
 then_given (Err s) e = absurd cc
+
+-- the library's test of an answer
+pub err_some : (a : Answer) → is_err a ≡ true → number_of a ≡ 0 → ⊥
+err_some (Ok u) e z = absurd cc
+err_some (Err r) e z = refused_some {a = Err r} refl z
+
+pub err_none : (a : Answer) → is_err a ≡ false → number_of a ≡ 0
+err_none (Ok u) e = refl
+err_none (Err r) e = absurd cc

@@ -7,7 +7,7 @@ ghost use Rattle.account.specs.code.Pair.{noon_spread, verdict_by, PairBy, place
 ghost use Rattle.account.specs.Noon.{joined_verdict, prompt_place, joined_prompts};
 
 use crate::accounts::{Account, conversions_answer, join, record_total, supplier};
-use crate::answers::{Refusal, number_of};
+use crate::answers::Refusal;
 use crate::check::{MOST_RECORDS, Survey, take_survey};
 use crate::parts::{CONTRACTS, ENTRIES, OWN, PROMPTS, RATES};
 use crate::stretches::stretch;
@@ -43,21 +43,21 @@ fn verdict_of(morning: Survey, noon: Survey, records: usize) -> Verdict
     ensures { result ≡ verdict_by morning noon records }
 {
     let first = morning.answer;
-    if number_of(first) != 0 {
+    if first.is_err() {
         return Verdict {
             file: MORNING,
             answer: first,
         };
     }
     let second = noon.answer;
-    if number_of(second) != 0 {
+    if second.is_err() {
         return Verdict {
             file: NOON,
             answer: second,
         };
     }
     let third = noon_spread(noon);
-    if number_of(third) != 0 {
+    if third.is_err() {
         return Verdict {
             file: NOON,
             answer: third,
@@ -95,7 +95,7 @@ fn pair_verdict<'a>(
 {
     let verdict = verdict_of(first, second, record_total(account));
     let answer = verdict.answer;
-    if number_of(answer) != 0 {
+    if answer.is_err() {
         return verdict;
     }
     if first.converts | second.converts {
@@ -160,7 +160,7 @@ pub fn prompt_place<'a>(morning: &'a [u8], noon: &'a [u8], contract: usize) -> P
     let account = join(first, second);
     let verdict = pair_verdict(morning, noon, first, second, account);
     let answer = verdict.answer;
-    if number_of(answer) != 0 {
+    if answer.is_err() {
         return nowhere();
     }
     if CONTRACTS <= contract {

@@ -652,11 +652,10 @@ pub extern "C" fn felgotany_write(entries: &[u8], out: &mut [u8]) -> WriteOutcom
     ensures { TellsWritten entries.now out.old result out.new }
 {
     let written = write(entries, out);
-    let answer = written.answer;
-    let told = tell(answer);
+    let told = tell_answer(&written);
     WriteOutcome {
         refusal: told.refusal,
         entry: told.record,
-        written: written.bytes,
+        written: written.unwrap_or(0),
     }
 }

@@ -7,7 +7,7 @@ ghost use Rattle.questions.specs.Noon.{joined_answer, after_joined, joined_need,
 ghost use Rattle.questions.specs.code.Held.{PairAllAnswered};
 
 use account::accounts::record_total;
-use account::answers::{Refusal, number_of};
+use account::answers::Refusal;
 use account::noon::{CheckedPair, JOINED, Verdict, check_pair};
 use exact::signed::{below, magnitude};
 use formulas::amount::Amount;
@@ -38,7 +38,7 @@ fn answer_pair<'a>(
 {
     let verdict = checked.verdict;
     let refusal = verdict.answer;
-    if number_of(refusal) != 0 {
+    if refusal.is_err() {
         return verdict;
     }
     let account = checked.account;
@@ -61,7 +61,7 @@ pub fn needed<'a>(morning: &'a [u8], noon: &'a [u8], question: Question) -> usiz
     let checked = check_pair(morning, noon);
     let verdict = checked.verdict;
     let refusal = verdict.answer;
-    if number_of(refusal) != 0 {
+    if refusal.is_err() {
         return 0;
     }
     let account = checked.account;
@@ -90,7 +90,7 @@ pub fn ask_all<'a>(
     let checked = check_pair(morning, noon);
     let verdict = checked.verdict;
     let refusal = verdict.answer;
-    if number_of(refusal) != 0 {
+    if refusal.is_err() {
         return AskedPair {
             figures: verdict,
             books: verdict,
@@ -153,7 +153,7 @@ pub fn cover_call<'a>(
     let checked = check_pair(morning, noon);
     let verdict = checked.verdict;
     let refusal = verdict.answer;
-    if number_of(refusal) != 0 {
+    if refusal.is_err() {
         return Call {
             verdict,
             amount: Amount(0),

@@ -2,26 +2,26 @@
 -- Assumes nothing.
 use Rattle.std.specs.Prelude.{Ok, Err}
 use Prim.Native.Nat.{ℕ, ◌*◌, ◌≤◌, ◌<◌}
-use mathlib.Core.Path.{◌≡◌, sym, ap, ◌∙◌}
+use mathlib.Core.Path.{◌≡◌, refl, sym, ap, ◌∙◌}
 use mathlib.Core.Bool.{Bool, true, false, cond, ◌&&◌}
 use mathlib.Core.List.{List, ◌++◌}
 use lib.Dec.{eqb, ltb}
 use lib.ListN.{length, get_or, drop}
 use lib.Seq.{take_all}
 use native.Mathlib.Omega.{arith}
-use borrow.Author.Tests.{ne_eqb, eq-eqb, lt-ltb, le-ltb}
+use borrow.Author.Tests.{ne_eqb, lt-ltb, le-ltb}
 use Rattle.record.specs.Bytes.{record_bytes}
-use Rattle.account.specs.Answers.{number_of, record_of, refusal}
+use Rattle.account.specs.Answers.{number_of, record_of, refusal, refusal_number}
 use Rattle.account.specs.Check.{too_long, cut_record}
 use Rattle.account.specs.Checked.{rates_checked, checked}
 use Rattle.account.specs.Records.{records, record_count}
 use Rattle.account.specs.Answers.{Answer}
+use Rattle.account.specs.declared.answers.Refusal.{Refusal}
 use Rattle.account.specs.declared.answers.Refusal.TheVariants.{TooLong, CutRecord, TooFewBytes}
-use Rattle.account.proofs.NoonLaws.{accepted_only}
+use Rattle.account.proofs.AcceptedOnly.{refused_some}
 use Rattle.account.proofs.Verdict.{too_long_lem, cut_short}
 use Rattle.writing.specs.Order.{places}
 use Rattle.writing.specs.Written.{written, filled_in, as_entered, verdict_on, fine, writing_answer, WrittenBy}
-use Rattle.writing.specs.declared.Written.{Written}
 use Rattle.writing.proofs.Placed.{written_long, nothing_over, long_same, cut_same}
 
 -- ---- too long, and cut: as the list itself
@@ -41,63 +41,55 @@ cut_verdict entries e f =
     ap (as_entered (places entries))
     (checked-cut (written entries) (long_same entries ∙ e) (cut_same entries ∙ f))
 
-module _ (entries lent after : List ℕ) (w : Written) (same : after ≡ lent) where
+module _ (entries lent after : List ℕ) (same : after ≡ lent) where
   -- a refusal of the written file
-  pub refuses :
-      (a : Answer) → verdict_on entries ≡ a → (number_of a ≡ 0 → ⊥) → w ≡ record { answer = a; bytes = 0 }
-      → WrittenBy entries lent w after
-  refuses a e nz h =
-      let f : fine (verdict_on entries) ≡ false = ap fine e ∙ ne_eqb (number_of a) 0 nz in
-      let is : writing_answer entries (length lent) ≡ a =
-      ap (λ (b : Bool). cond (b && ltb (length lent) (length (written entries))) (Err TooFewBytes) (verdict_on entries)) f ∙ e in
-      let off : fine (writing_answer entries (length lent)) ≡ false = ap fine is ∙ ne_eqb (number_of a) 0 nz in
+  pub refuses : (r : Refusal) → Err r ≡ verdict_on entries → WrittenBy entries lent (Err r) after
+  refuses r e =
+      let some : fine (Err r) ≡ false = ne_eqb (refusal_number r) 0 (refused_some {a = Err r} refl) in
+      let f : fine (verdict_on entries) ≡ false = ap fine (sym e) ∙ some in
+      let is : writing_answer entries (length lent) ≡ Err r =
+      ap (λ (b : Bool). cond (b && ltb (length lent) (length (written entries))) (Err TooFewBytes) (verdict_on entries)) f ∙ sym e in
+      let off : fine (writing_answer entries (length lent)) ≡ false = ap fine is ∙ some in
       record {
-        answer = ap (λ (x : Written). x.answer) h ∙ sym is;
-        bytes = ap (λ (x : Written). x.bytes) h ∙ sym (ap (λ (b : Bool). cond b (length (written entries)) 0) off);
+        answer = sym is;
+        bytes = sym (ap (λ (b : Bool). cond b (length (written entries)) 0) off);
         out = same ∙ sym (ap (λ (b : Bool). cond b (written entries ++ drop (length (written entries)) lent) lent) off);
       }
 
-  pub refuses_long : too_long entries ≡ true → w ≡ record { answer = Err TooLong; bytes = 0 } → WrittenBy entries lent w after
-  refuses_long e h = refuses (Err TooLong) (long_verdict entries e) (λ z. omega arith) h
+  pub refuses_long : too_long entries ≡ true → WrittenBy entries lent (Err TooLong) after
+  refuses_long e = refuses TooLong (sym (long_verdict entries e))
 
-  pub refuses_cut :
-      too_long entries ≡ false → cut_record entries ≡ true → w ≡ record { answer = Err CutRecord; bytes = 0 }
-      → WrittenBy entries lent w after
-  refuses_cut e f h = refuses (Err CutRecord) (cut_verdict entries e f) (λ z. omega arith) h
+  pub refuses_cut : too_long entries ≡ false → cut_record entries ≡ true → WrittenBy entries lent (Err CutRecord) after
+  refuses_cut e f = refuses CutRecord (sym (cut_verdict entries e f))
 
-  pub refuses_room :
-      number_of (verdict_on entries) ≡ 0 → length lent < length entries → w ≡ record { answer = Err TooFewBytes; bytes = 0 }
-      → WrittenBy entries lent w after
-  refuses_room z l h =
-      let f : fine (verdict_on entries) ≡ true = eq-eqb (number_of (verdict_on entries)) 0 z in
+  pub refuses_room : verdict_on entries ≡ Ok tt → length lent < length entries → WrittenBy entries lent (Err TooFewBytes) after
+  refuses_room z l =
       let s : ltb (length lent) (length (written entries)) ≡ true =
       lt-ltb (length lent) (length (written entries)) (omega (arith, written_long entries)) in
-      let is : writing_answer entries (length lent) ≡ (Err TooFewBytes) =
-      ap (λ (b : Bool). cond (b && ltb (length lent) (length (written entries))) (Err TooFewBytes) (verdict_on entries)) f
+      let is : writing_answer entries (length lent) ≡ Err TooFewBytes =
+      ap (λ (b : Bool). cond (b && ltb (length lent) (length (written entries))) (Err TooFewBytes) (verdict_on entries)) (ap fine z)
       ∙ ap (λ (b : Bool). cond b (Err TooFewBytes) (verdict_on entries)) s in
       let off : fine (writing_answer entries (length lent)) ≡ false = ap fine is in
       record {
-        answer = ap (λ (x : Written). x.answer) h ∙ sym is;
-        bytes = ap (λ (x : Written). x.bytes) h ∙ sym (ap (λ (b : Bool). cond b (length (written entries)) 0) off);
+        answer = sym is;
+        bytes = sym (ap (λ (b : Bool). cond b (length (written entries)) 0) off);
         out = same ∙ sym (ap (λ (b : Bool). cond b (written entries ++ drop (length (written entries)) lent) lent) off);
       }
 
 pub writes :
-    (entries lent after : List ℕ) (w : Written) → cut_record entries ≡ false → number_of (verdict_on entries) ≡ 0
-    → length entries ≤ length lent → after ≡ filled_in entries 0 (record_count entries) lent
-    → w.answer ≡ Ok tt → w.bytes ≡ length entries → WrittenBy entries lent w after
-writes entries lent after w whole z l h ha hb =
-    let f : fine (verdict_on entries) ≡ true = eq-eqb (number_of (verdict_on entries)) 0 z in
+    (entries lent after : List ℕ) → cut_record entries ≡ false → verdict_on entries ≡ Ok tt
+    → length entries ≤ length lent → after ≡ filled_in entries 0 (record_count entries) lent → WrittenBy entries lent (Ok (length entries)) after
+writes entries lent after whole z l h =
     let s : ltb (length lent) (length (written entries)) ≡ false =
     le-ltb (length lent) (length (written entries)) (omega (arith, written_long entries)) in
-    let is : writing_answer entries (length lent) ≡ (Ok tt) =
-    ap (λ (b : Bool). cond (b && ltb (length lent) (length (written entries))) (Err TooFewBytes) (verdict_on entries)) f
-    ∙ ap (λ (b : Bool). cond b (Err TooFewBytes) (verdict_on entries)) s ∙ accepted_only (verdict_on entries) z in
+    let is : writing_answer entries (length lent) ≡ Ok tt =
+    ap (λ (b : Bool). cond (b && ltb (length lent) (length (written entries))) (Err TooFewBytes) (verdict_on entries)) (ap fine z)
+    ∙ ap (λ (b : Bool). cond b (Err TooFewBytes) (verdict_on entries)) s ∙ z in
     let on : fine (writing_answer entries (length lent)) ≡ true = ap fine is in
     let n : record_count entries * record_bytes ≡ length (written entries) = nothing_over entries whole ∙ sym (written_long entries) in
     record {
-      answer = ha ∙ sym is;
-      bytes = hb ∙ sym (written_long entries) ∙ sym (ap (λ (b : Bool). cond b (length (written entries)) 0) on);
+      answer = sym is;
+      bytes = sym (written_long entries) ∙ sym (ap (λ (b : Bool). cond b (length (written entries)) 0) on);
       out =
           h ∙ ap (λ (xs : List ℕ). xs ++ drop (record_count entries * record_bytes) lent) (take_all (record_count entries * record_bytes) (written entries)
           (omega arith))

@@ -1,15 +1,15 @@
 -- "Write the file too" (request 2026-06): the file of a list of entries, what comes back, and the lent bytes afterwards.
 -- Assumes nothing.
-use Rattle.std.specs.Prelude.{ℕ, ◌*◌, ◌≡◌, Bool, ◌&&◌, cond, List, [], ◌∷◌, ◌++◌, eqb, ltb, length, get_or, drop, Err}
+use Rattle.std.specs.Prelude.{ℕ, ◌*◌, ◌≡◌, Bool, ◌&&◌, cond, List, [], ◌∷◌, ◌++◌, eqb, ltb, length, get_or, drop, Result, Err}
+use Rattle.std.specs.Result.{result_unwrap_or}
 use Rattle.record.specs.Layout.{Record, record_bytes}
-use Rattle.account.specs.Answers.{number_of, record_of, refusal}
 use Rattle.account.specs.Checked.{checked}
 use Rattle.account.specs.Records.{records, stretch, record_count}
-use Rattle.account.specs.Answers.{Answer}
+use Rattle.account.specs.Answers.{Answer, answer_of, number_of, record_of, refusal}
+use Rattle.account.specs.declared.answers.Refusal.{Refusal}
 use Rattle.account.specs.declared.answers.Refusal.TheVariants.{TooFewBytes}
 use Rattle.writing.specs.Order.{rank, places}
 use Rattle.writing.specs.Sorting.{sorted}
-use Rattle.writing.specs.declared.Written.{Written}
 
 abbrev pub together : List Record → List ℕ
 together [] = []
@@ -50,7 +50,8 @@ bytes_for a entries = cond (fine a) (length (written entries)) 0
 abbrev pub after_writing : Answer → List ℕ → List ℕ → List ℕ
 after_writing a entries lent = cond (fine a) (written entries ++ drop (length (written entries)) lent) lent
 
-pub record WrittenBy (entries lent : List ℕ) (w : Written) (after : List ℕ) : Type 0 where
-  pub answer : w.answer ≡ writing_answer entries (length lent)
-  pub bytes : w.bytes ≡ bytes_for (writing_answer entries (length lent)) entries
+-- what is refused, or how many bytes are written; and the lent bytes afterwards
+pub record WrittenBy (entries lent : List ℕ) (r : Result ℕ Refusal) (after : List ℕ) : Type 0 where
+  pub answer : answer_of r ≡ writing_answer entries (length lent)
+  pub bytes : result_unwrap_or r 0 ≡ bytes_for (writing_answer entries (length lent)) entries
   pub out : after ≡ after_writing (writing_answer entries (length lent)) entries lent

@@ -16,7 +16,7 @@ ghost use Rattle.writing.specs.Order.{Ordered};
 ghost use Rattle.writing.specs.Written.{written};
 
 use crate::filling::{entry_at, fill};
-use account::answers::{Refusal, number_of, refusal_of};
+use account::answers::{Refusal, refusal_of};
 use account::check::{note_first, note_one};
 use account::conversions::row_answer;
 use account::fault::fault;
@@ -121,10 +121,7 @@ fn conversions_written(entries: &[u8], order: &[u16], t: Rates) -> Result<(), Re
     ensures { result ≡ rates_checked (records (written entries.now)) }
 {
     for k in 0..record_count(entries) {
-        let answer = answer_at(t, entry_at(entries, order, k), k);
-        if number_of(answer) != 0 {
-            return answer;
-        }
+        answer_at(t, entry_at(entries, order, k), k)?;
     }
     Ok(())
 }

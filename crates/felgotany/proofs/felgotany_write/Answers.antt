@@ -7,10 +7,10 @@ use Rattle.felgotany.proofs.felgotany_write.Goals as goal
 pub returns : goal.returns
 returns c =
     let w = c.write-written.ensures in
-    let t = c.tell-told.ensures in
+    let t = c.tell_answer-told.ensures in
     record {
       refusal = t.refusal ∙ ap number_of w.answer;
       entry_named = t.record_named ∙ ap record_of w.answer;
-      written_is = w.bytes;
+      written_is = c.unwrap_or.ensures ∙ w.bytes;
       out = w.out;
     }

@@ -2,6 +2,7 @@
 -- Assumes nothing.
 use mathlib.Core.Path.{◌≡◌, sym, ◌∙◌}
 use native.Mathlib.Omega.{arith}
+use Rattle.account.proofs.AcceptedOnly.{err_some, err_none}
 use Rattle.account.specs.Answers.{number_of}
 use Rattle.account.proofs.NoonLaws.{Joining, place_refused, place-beyond, place_noon, place_morning, place-nowhere}
 use Rattle.account.proofs.noon.prompt_place.Goals as goal
@@ -26,16 +27,16 @@ known c =
 
 -- nothing is refused, and the number is a contract's
 clear : (c : Else-contract-ge-CONTRACTS) → number_of c.pair_verdict-verdict.result.answer ≡ 0
-clear c = sym c.number_of.ensures ∙ omega (arith, c.if-number_of-ne0.false)
+clear c = err_none _ (sym c.is_err.ensures.value ∙ c.if-is_err.false)
 
 pub pair_verdict-verdict-requires : goal.pair_verdict-verdict-requires
 pair_verdict-verdict-requires c = (c.take_survey-first.ensures, (c.take_survey-second.ensures, c.join-account.ensures))
 
-pub returns-then-number_of-ne0 : goal.returns-then-number_of-ne0
-returns-then-number_of-ne0 c =
+pub returns-then-is_err : goal.returns-then-is_err
+returns-then-is_err c =
     let s = c.args in
     c.nowhere.ensures
-    ∙ sym (place_refused s.morning.now s.noon.now (known (goal.at.returns-then-number_of-ne0 c).After-pair_verdict-verdict) s.contract (λ z. c.if-number_of-ne0.true (c.number_of.ensures ∙ z)))
+    ∙ sym (place_refused s.morning.now s.noon.now (known (goal.at.returns-then-is_err c).After-pair_verdict-verdict) s.contract (err_some _ (sym c.is_err.ensures.value ∙ c.if-is_err.true)))
 
 pub returns-then-contract-ge-CONTRACTS : goal.returns-then-contract-ge-CONTRACTS
 returns-then-contract-ge-CONTRACTS c =

@@ -1,74 +1,60 @@
 -- The first of the refusals in their order.
 -- Assumes nothing.
 use Rattle.std.specs.Prelude.{Ok, Err}
+use Prim.Native.Nat.{ℕ}
 use mathlib.Core.Path.{◌≡◌, sym, ap, ◌∙◌}
 use mathlib.Core.Bool.{Bool, cond}
 use native.Mathlib.Omega.{arith}
 use borrow.Author.Tests.{lt-ltb, le-ltb}
 use Rattle.account.specs.Check.{most_records}
+use Rattle.account.proofs.AcceptedOnly.{err_some, err_none}
 use Rattle.account.specs.Answers.{number_of}
 use Rattle.account.specs.Noon.{of_joined, of_morning, of_noon, few_joined}
 use Rattle.account.specs.code.Pair.{noon_spread, verdict_by}
 use Rattle.account.specs.declared.answers.Refusal.TheVariants.{TooManyJoined}
 use Rattle.account.proofs.NoonLaws.{stops, goes}
+use Rattle.account.specs.declared.check.Survey.{Survey}
 use Rattle.account.proofs.noon.verdict_of.Goals as goal
-use Rattle.account.proofs.noon.verdict_of.Goals.{Else-number_of-ne0, Else-number_of-ne0-2, Else-number_of-ne0-3, Start}
 
--- the files are accepted
-first : (c : Else-number_of-ne0) → number_of c.args.morning.answer ≡ 0
-first c = sym c.number_of.ensures ∙ omega (arith, c.if-number_of-ne0.false)
+-- nothing is refused but how many records are joined
+joined : (m n : Survey) (k : ℕ) → number_of m.answer ≡ 0 → number_of n.answer ≡ 0 → number_of (noon_spread n) ≡ 0
+    → verdict_by m n k ≡ of_joined (few_joined k)
+joined m n k e f g = goes (of_morning m.answer) _ e ∙ goes (of_noon n.answer) _ f ∙ goes (of_noon (noon_spread n)) _ g
 
-abbrev start_of : Else-number_of-ne0-2 → Start
-start_of c =
-    let start = c.before.before.before.before in
-    start
+pub returns-then-is_err : goal.returns-then-is_err
+returns-then-is_err c =
+    sym (stops (of_morning c.args.morning.answer) _ (err_some _ (sym c.is_err.ensures.value ∙ c.if-is_err.true)))
 
-second : (c : Else-number_of-ne0-2) → number_of (start_of c).args.noon.answer ≡ 0
-second c = sym c.number_of-2.ensures ∙ omega (arith, c.if-number_of-ne0-2.false)
-
--- no kind 5 or 6 either, so that only how many records are joined is left
-module _ (c : Else-number_of-ne0-3) where
-  abbrev both_accepted : Else-number_of-ne0-2
-  both_accepted = c.before.before.before
-
-  abbrev s : Start
-  s = c.before.before.before.before.before.before.before
-
-  third : number_of (noon_spread c.args.noon) ≡ 0
-  third = sym (c.number_of-3.ensures ∙ ap number_of c.noon_spread-third.ensures) ∙ omega (arith, c.if-number_of-ne0-3.false)
-
-  joined : verdict_by c.args.morning c.args.noon c.args.records ≡ of_joined (few_joined c.args.records)
-  joined =
-      goes (of_morning c.args.morning.answer) _ (first c.before.before.before.before.before)
-      ∙ goes (of_noon c.args.noon.answer) _ (second both_accepted)
-      ∙ goes (of_noon (noon_spread c.args.noon)) _ third
-
-pub returns-then-number_of-ne0 : goal.returns-then-number_of-ne0
-returns-then-number_of-ne0 c =
-    sym (stops (of_morning c.args.morning.answer) _ (λ z. c.if-number_of-ne0.true (c.number_of.ensures ∙ z)))
-
-pub returns-then-number_of-ne0-2 : goal.returns-then-number_of-ne0-2
-returns-then-number_of-ne0-2 c =
+pub returns-then-is_err-2 : goal.returns-then-is_err-2
+returns-then-is_err-2 c =
     sym
-    (goes (of_morning c.args.morning.answer) _ (first (goal.at.returns-then-number_of-ne0-2 c).Else-number_of-ne0)
-    ∙ stops (of_noon c.args.noon.answer) _ (λ z. c.if-number_of-ne0-2.true (c.number_of-2.ensures ∙ z)))
+    (goes (of_morning c.args.morning.answer) _ (err_none _ (sym c.is_err.ensures.value ∙ c.if-is_err.false))
+    ∙ stops (of_noon c.args.noon.answer) _ (err_some _ (sym c.is_err-2.ensures.value ∙ c.if-is_err-2.true)))
 
-pub returns-then-number_of-ne0-3 : goal.returns-then-number_of-ne0-3
-returns-then-number_of-ne0-3 c =
-    let s = start_of (goal.at.returns-then-number_of-ne0-3 c).Else-number_of-ne0-2 in
+pub returns-then-is_err-3 : goal.returns-then-is_err-3
+returns-then-is_err-3 c =
+    let a = c.args in
     let third = c.noon_spread-third.ensures in
     ap of_noon third
     ∙ sym
-    (goes (of_morning s.args.morning.answer) _ (first (goal.at.returns-then-number_of-ne0-3 c).Else-number_of-ne0)
-    ∙ goes (of_noon s.args.noon.answer) _ (second (goal.at.returns-then-number_of-ne0-3 c).Else-number_of-ne0-2)
-    ∙ stops (of_noon (noon_spread s.args.noon)) _ (λ z. c.if-number_of-ne0-3.true (c.number_of-3.ensures ∙ ap number_of third ∙ z)))
+    (goes (of_morning a.morning.answer) _ (err_none _ (sym c.is_err.ensures.value ∙ c.if-is_err.false))
+    ∙ goes (of_noon a.noon.answer) _ (err_none _ (sym c.is_err-2.ensures.value ∙ c.if-is_err-2.false))
+    ∙ stops (of_noon (noon_spread a.noon)) _ (λ z. err_some _ (sym c.is_err-3.ensures.value ∙ c.if-is_err-3.true) (ap number_of third ∙ z)))
 
 pub returns-then-records-gt-MOST_RECORDS : goal.returns-then-records-gt-MOST_RECORDS
 returns-then-records-gt-MOST_RECORDS c =
-    let n = (s (goal.at.returns-then-records-gt-MOST_RECORDS c).Else-number_of-ne0-3).args.records in
-    sym (joined (goal.at.returns-then-records-gt-MOST_RECORDS c).Else-number_of-ne0-3 ∙ ap (λ (t : Bool). of_joined (cond t (Err (TooManyJoined n)) (Ok tt))) (lt-ltb most_records n c.if-records-gt-MOST_RECORDS.true))
+    let a = c.args in
+    let third = ap number_of (sym c.noon_spread-third.ensures) ∙ err_none _ (sym c.is_err-3.ensures.value ∙ c.if-is_err-3.false) in
+    sym
+    (joined a.morning a.noon a.records (err_none _ (sym c.is_err.ensures.value ∙ c.if-is_err.false))
+    (err_none _ (sym c.is_err-2.ensures.value ∙ c.if-is_err-2.false)) third
+    ∙ ap (λ (t : Bool). of_joined (cond t (Err (TooManyJoined a.records)) (Ok tt))) (lt-ltb most_records a.records c.if-records-gt-MOST_RECORDS.true))
 
 pub returns : goal.returns
 returns c =
-    let n = (s (goal.at.returns c).Else-number_of-ne0-3).args.records in
-    sym (joined (goal.at.returns c).Else-number_of-ne0-3 ∙ ap (λ (t : Bool). of_joined (cond t (Err (TooManyJoined n)) (Ok tt))) (le-ltb most_records n (omega (arith, c.if-records-gt-MOST_RECORDS.false))))
+    let a = c.args in
+    let third = ap number_of (sym c.noon_spread-third.ensures) ∙ err_none _ (sym c.is_err-3.ensures.value ∙ c.if-is_err-3.false) in
+    sym
+    (joined a.morning a.noon a.records (err_none _ (sym c.is_err.ensures.value ∙ c.if-is_err.false))
+    (err_none _ (sym c.is_err-2.ensures.value ∙ c.if-is_err-2.false)) third
+    ∙ ap (λ (t : Bool). of_joined (cond t (Err (TooManyJoined a.records)) (Ok tt))) (le-ltb most_records a.records (omega (arith, c.if-records-gt-MOST_RECORDS.false))))

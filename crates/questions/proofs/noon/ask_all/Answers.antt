@@ -3,37 +3,38 @@
 use mathlib.Core.Path.{◌≡◌, sym, ◌∙◌}
 use mathlib.Core.Bool.{true, false}
 use native.Mathlib.Omega.{arith}
+use Rattle.account.proofs.AcceptedOnly.{err_some, err_none}
 use Rattle.account.specs.Answers.{number_of}
 use Rattle.margin.specs.declared.asking.Question.TheVariants.{Figures}
 use Rattle.questions.proofs.NoonLaws.{pair_stands, answer_refused, answer_accepted, all_refused, all_accepted}
 use Rattle.questions.proofs.noon.ask_all.Goals as goal
-use Rattle.questions.proofs.noon.ask_all.Goals.{Else-number_of-ne0}
+use Rattle.questions.proofs.noon.ask_all.Goals.{Else-is_err}
 
 -- nothing is refused
-clear : (c : Else-number_of-ne0) → number_of c.check_pair-checked.result.verdict.answer ≡ 0
-clear c = sym c.number_of.ensures ∙ omega (arith, c.if-number_of-ne0.false)
+clear : (c : Else-is_err) → number_of c.check_pair-checked.result.verdict.answer ≡ 0
+clear c = err_none _ (sym c.is_err.ensures.value ∙ c.if-is_err.false)
 
-pub returns-then-number_of-ne0 : goal.returns-then-number_of-ne0
-returns-then-number_of-ne0 c =
+pub returns-then-is_err : goal.returns-then-is_err
+returns-then-is_err c =
     let m = c.args.morning.now in
     let n = c.args.noon.now in
     let k = c.check_pair-checked in
-    let f = answer_refused m n k.result k.ensures (λ e. c.if-number_of-ne0.true (c.number_of.ensures ∙ e)) Figures c.args.figures.now in
-    let b = all_refused m n k.result k.ensures (λ e. c.if-number_of-ne0.true (c.number_of.ensures ∙ e)) false c.args.books.now in
-    let u = all_refused m n k.result k.ensures (λ e. c.if-number_of-ne0.true (c.number_of.ensures ∙ e)) true c.args.uses.now in
+    let f = answer_refused m n k.result k.ensures (err_some _ (sym c.is_err.ensures.value ∙ c.if-is_err.true)) Figures c.args.figures.now in
+    let b = all_refused m n k.result k.ensures (err_some _ (sym c.is_err.ensures.value ∙ c.if-is_err.true)) false c.args.books.now in
+    let u = all_refused m n k.result k.ensures (err_some _ (sym c.is_err.ensures.value ∙ c.if-is_err.true)) true c.args.uses.now in
     record { figures_answer_lem = f.0; figures-after = f.1; books_answer_lem = b.0; books_after_lem = b.1; uses_answer_lem = u.0; uses-after = u.1 }
 
 pub everything_over-all-requires : goal.everything_over-all-requires
 everything_over-all-requires c =
     let k = c.check_pair-checked in
-    pair_stands c.args.morning.now c.args.noon.now k.result k.ensures (clear (goal.at.everything_over-all-requires c).Else-number_of-ne0)
+    pair_stands c.args.morning.now c.args.noon.now k.result k.ensures (clear (goal.at.everything_over-all-requires c).Else-is_err)
 
 pub returns : goal.returns
 returns c =
     let m = c.args.morning.now in
     let n = c.args.noon.now in
     let k = c.check_pair-checked in
-    let z = clear (goal.at.returns c).Else-number_of-ne0 in
+    let z = clear (goal.at.returns c).Else-is_err in
     let r = c.everything_over-all in
     let x = r.ensures in
     let f = answer_accepted m n k.result k.ensures z Figures c.args.figures.now _ r.result.figures

@@ -7,16 +7,17 @@ use native.Mathlib.Omega.{arith}
 use lib.IntN.{nat_abs}
 use Rattle.exact.proofs.Integers.{seen}
 use Rattle.record.proofs.Within.{neither}
+use Rattle.account.proofs.AcceptedOnly.{err_some, err_none}
 use Rattle.account.specs.Answers.{number_of}
 use Rattle.account.specs.Joined.{account_of}
 use Rattle.questions.specs.Noon.{beyond_amount, requirement, cover_call}
 use Rattle.questions.proofs.NoonLaws.{pair_stands, amount_within, call_refused, call_outside, call_made}
 use Rattle.questions.proofs.noon.cover_call.Goals as goal
-use Rattle.questions.proofs.noon.cover_call.Goals.{After-beyond_amount-3, Else-beyond_amount, Else-number_of-ne0}
+use Rattle.questions.proofs.noon.cover_call.Goals.{After-beyond_amount-3, Else-beyond_amount, Else-is_err}
 
 -- nothing is refused so far
-clear : (c : Else-number_of-ne0) → number_of c.check_pair-checked.result.verdict.answer ≡ 0
-clear c = sym c.number_of.ensures ∙ omega (arith, c.if-number_of-ne0.false)
+clear : (c : Else-is_err) → number_of c.check_pair-checked.result.verdict.answer ≡ 0
+clear c = err_none _ (sym c.is_err.ensures.value ∙ c.if-is_err.false)
 
 -- the amounts are tested one after the other
 tested : (c : After-beyond_amount-3) →
@@ -35,26 +36,26 @@ within : (c : Else-beyond_amount) →
     (beyond_amount a.last || beyond_amount a.threshold) || beyond_amount a.collateral ≡ false
 within c = sym (tested (goal.at.total_over-required-requires c).After-beyond_amount-3) ∙ c.if-beyond_amount.false
 
-pub returns-then-number_of-ne0 : goal.returns-then-number_of-ne0
-returns-then-number_of-ne0 c =
+pub returns-then-is_err : goal.returns-then-is_err
+returns-then-is_err c =
     let a = c.args in
     let o = c.check_pair-checked in
     call_refused a.morning.now a.noon.now o.result o.ensures a.last a.threshold a.collateral
-    (λ e. c.if-number_of-ne0.true (c.number_of.ensures ∙ e))
+    (err_some _ (sym c.is_err.ensures.value ∙ c.if-is_err.true))
 
 pub returns-then-beyond_amount : goal.returns-then-beyond_amount
 returns-then-beyond_amount c =
     let a = c.args in
     let o = c.check_pair-checked in
     let n = c.record_total in
-    call_outside a.morning.now a.noon.now o.result o.ensures a.last a.threshold a.collateral (clear (goal.at.returns-then-beyond_amount c).Else-number_of-ne0)
+    call_outside a.morning.now a.noon.now o.result o.ensures a.last a.threshold a.collateral (clear (goal.at.returns-then-beyond_amount c).Else-is_err)
     (sym (tested (goal.at.returns-then-beyond_amount c).After-beyond_amount-3) ∙ c.if-beyond_amount.true) n.result n.ensures c.of_joined.result c.of_joined.ensures
 
 pub total_over-required-requires : goal.total_over-required-requires
 total_over-required-requires c =
     let a = c.args in
     let o = c.check_pair-checked in
-    pair_stands a.morning.now a.noon.now o.result o.ensures (clear (goal.at.total_over-required-requires c).Else-number_of-ne0)
+    pair_stands a.morning.now a.noon.now o.result o.ensures (clear (goal.at.total_over-required-requires c).Else-is_err)
 
 pub call_of-requires : goal.call_of-requires
 call_of-requires c =
@@ -68,7 +69,7 @@ returns c =
     let a = c.args in
     let o = c.check_pair-checked in
     call_made a.morning.now a.noon.now o.result o.ensures a.last a.threshold a.collateral
-    (clear (goal.at.returns c).Else-number_of-ne0) (within (goal.at.returns c).Else-beyond_amount) c.call_of.result
+    (clear (goal.at.returns c).Else-is_err) (within (goal.at.returns c).Else-beyond_amount) c.call_of.result
     (c.call_of.ensures
     ∙ ap₂ (λ (x y : ℕ). cover_call x y c.magnitude-2.result c.magnitude-3.result)
     c.total_over-required.ensures

@@ -1,5 +1,7 @@
 use Prim.Native.Nat.{ℕ, ◌+◌, ◌<◌}
 use native.Mathlib.Nat.{zero-add}
+use Rattle.std.proofs.lemmas.Result.{err_from_is_err_and}
+use Rattle.account.proofs.AcceptedOnly.{refused_some}
 use mathlib.Core.Path.{◌≡◌, sym, ap, subst, ◌∙◌}
 use mathlib.Core.List.{List}
 use native.Mathlib.Omega.{arith}
@@ -14,14 +16,14 @@ use Rattle.writing.specs.Written.{written}
 use Rattle.writing.proofs.Held.{row_at}
 use Rattle.writing.proofs.Placed.{count_same}
 use Rattle.writing.proofs.checking.conversions_written.Goals as goal
-use Rattle.writing.proofs.checking.conversions_written.Goals.{After-answer_at-answer, In-loop-k}
+use Rattle.writing.proofs.checking.conversions_written.Goals.{After-answer_at, In-loop-k}
 
 -- the record is one of the file
 within : (c : In-loop-k) → c.loop-k.k < record_count (written c.args.entries.now)
 within c = omega (arith, c.loop-k-test.true, c.record_count-k-end.ensures, count_same c.args.entries.now)
 
 -- the head of the turn, its record's place, the file, its rates, and what the record answers
-module _ (c : After-answer_at-answer) where
+module _ (c : After-answer_at) where
   abbrev k : ℕ
   k = c.loop-k.k
 
@@ -31,34 +33,35 @@ module _ (c : After-answer_at-answer) where
   abbrev rates : List Record
   rates = rates_of (records file)
 
-  answered : c.answer_at-answer.result ≡ row_answer rates (0 + k) (record_at file k)
+  answered : c.answer_at.result ≡ row_answer rates (0 + k) (record_at file k)
   answered =
-      c.answer_at-answer.ensures rates c.requires.1.rates (recorded file c.requires.1.accepted).ranges.rates
+      c.answer_at.ensures rates c.requires.1.rates (recorded file c.requires.1.accepted).ranges.rates
       ∙ ap (row_answer rates k) c.entry_at.ensures
       ∙ ap (λ (n : ℕ). row_answer rates n (record_at file k)) (sym (zero-add k))
 
-pub answer_at-answer-requires : goal.answer_at-answer-requires
-answer_at-answer-requires c =
+pub answer_at-requires : goal.answer_at-requires
+answer_at-requires c =
     let w = written c.args.entries.now in
-    let row = row_at w c.requires.1.accepted c.loop-k.k (within (goal.at.answer_at-answer-requires c).In-loop-k) in (
+    let row = row_at w c.requires.1.accepted c.loop-k.k (within (goal.at.answer_at-requires c).In-loop-k) in (
       subst (λ (r : Record). kind r ≡ 3 → Row r) (sym c.entry_at.ensures) row,
       record { rates = rates_of (records w); held = c.requires.1.rates; within = (recorded w c.requires.1.accepted).ranges.rates },
     )
 
-pub returns-then-number_of-ne0 : goal.returns-then-number_of-ne0
-returns-then-number_of-ne0 c =
-    let p = (goal.at.returns-then-number_of-ne0 c).After-answer_at-answer in
-    let a = answered p in
-    a
-    ∙ sym (c.loop-k.invariant ∙ rows_stop (rates p) 0 (file p) (k p) (within (goal.at.returns-then-number_of-ne0 c).In-loop-k)
-    (λ z. c.if-number_of-ne0.true (c.number_of.ensures ∙ ap number_of a ∙ z)))
+pub returns-in_err-answer_at : goal.returns-in_err-answer_at
+returns-in_err-answer_at c =
+    let q = (goal.at.returns-in_err-answer_at c).After-answer_at in
+    let e = sym c.in_err-answer_at.was ∙ answered q in
+    let p = err_from_is_err_and c.from_residual.result c.from_residual.ensures.1 in
+    rw (p.1, p.2)
+    (e
+    ∙ sym (c.loop-k.invariant ∙ rows_stop (rates q) 0 (file q) (k q) (within (goal.at.returns-in_err-answer_at c).In-loop-k) (refused_some e)))
 
 pub loop-k-preserved : goal.loop-k-preserved
 loop-k-preserved c =
-    let p = (goal.at.loop-k-preserved c).After-answer_at-answer in
+    let p = (goal.at.loop-k-preserved c).After-answer_at in
     c.loop-k.invariant
     ∙ rows_next (rates p) 0 (file p) (k p) (within (goal.at.loop-k-preserved c).In-loop-k)
-    (sym (c.number_of.ensures ∙ ap number_of (answered p)) ∙ omega (arith, c.if-number_of-ne0.false))
+    (ap number_of (sym (answered p) ∙ c.in_ok-answer_at.was))
 
 pub returns : goal.returns
 returns c =

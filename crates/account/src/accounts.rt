@@ -274,7 +274,11 @@ fn before_rows(account: Account) -> usize
 }
 
 // 14 and 15, "for rows in file order", of an account whose records are accepted.
-pub(crate) fn conversions_answer<'a>(morning: &'a [u8], noon: &'a [u8], account: Account) -> Result<(), Refusal>
+pub(crate) fn conversions_answer<'a>(
+    morning: &'a [u8],
+    noon: &'a [u8],
+    account: Account,
+) -> Result<(), Refusal>
     requires { Places morning.now noon.now account × Recorded (account_of morning.now noon.now) }
     ensures { result ≡ rates_checked (account_of morning.now noon.now) }
 {

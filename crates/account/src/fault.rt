@@ -52,12 +52,7 @@ fn faultless(counts: &[u16], prompts: &[u8], before: &[u8], r: &[u8]) -> bool
 }
 
 // Of record `k`, from the notes of the records before it.
-pub(crate) fn fault_at(
-    file: &[u8],
-    first: &[u16],
-    counts: &[u16],
-    k: usize,
-) -> Result<(), Refusal>
+pub(crate) fn fault_at(file: &[u8], first: &[u16], counts: &[u16], k: usize) -> Result<(), Refusal>
     requires { k < record_count file.now }
     ensures { result ≡ refusal (fault_at file.now first.now counts.now k) k }
 {

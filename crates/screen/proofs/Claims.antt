@@ -237,7 +237,6 @@ module _ (lent : List ℕ) (named : ℕ) where
       added = after_adding;
       refused = unchanged (add_answer lent named ticket) refl;
     }
-
       where
         unchanged : (a : Answer) → add_answer lent named ticket ≡ a → (add_answer lent named ticket ≡ Ok tt → ⊥) → after_add lent named ticket ≡ lent
         unchanged (Ok u) e d = absurd (d e)

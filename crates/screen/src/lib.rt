@@ -30,9 +30,10 @@ pub fn load(lent: &[u8], named: usize) -> Result<(), Refusal>
     ensures { result ≡ load_answer lent.now named }
 {
     if lent.len() < named {
-        return Err(Refusal::TooFewBytes);
+        Err(Refusal::TooFewBytes)
+    } else {
+        check(&lent[..named])
     }
-    check(&lent[..named])
 }
 
 // What a ticket is refused for, or the byte of its file at which it would stand.

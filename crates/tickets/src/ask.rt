@@ -1,6 +1,6 @@
 // What a dealer asks, over plain bytes: the margin before and after one ticket more, and before and after the latest is withdrawn.
 ghost use Rattle.std.specs.Prelude.{◌≡◌, [], length};
-ghost use Rattle.tickets.specs.Asked.{tickets_in, refused_by, asked_about, withdrawn_from};
+ghost use Rattle.tickets.specs.Asked.{tickets_in, of, refused_by, asked_about, withdrawn_from};
 ghost use Rattle.tickets.specs.code.Held.{HeldWith};
 ghost use Rattle.tickets.specs.code.Kept.{KeptBy};
 
@@ -45,6 +45,15 @@ fn refused(told: Ticketed) -> Asked
     }
 }
 
+fn refused_with(ticket: usize, refusal: Refusal) -> Asked
+    ensures { result ≡ refused_by (of ticket (Err refusal)) }
+{
+    refused(Ticketed {
+        ticket,
+        answer: Err(refusal),
+    })
+}
+
 // How many tickets there are: what is left at the end is one too.
 fn ticket_count(tickets: &[u8]) -> usize
     ensures { result ≡ length (tickets_in tickets.now) }
@@ -80,10 +89,7 @@ fn ask_kept(file: &[u8], kept: Kept, tickets: &[u8], ticket: &[u8]) -> Asked
     match put_in(file, kept, tickets) {
         Err(told) => refused(told),
         Ok(held) => match add(file, held.kept, ticket) {
-            Err(refusal) => refused(Ticketed {
-                ticket: held.count + 1,
-                answer: Err(refusal),
-            }),
+            Err(refusal) => refused_with(held.count + 1, refusal),
             Ok(more) => Asked {
                 ticket: held.count + 1,
                 answer: Ok(()),
@@ -101,10 +107,7 @@ pub fn ask(file: &[u8], tickets: &[u8], ticket: &[u8]) -> Asked
 {
     match check_file(file) {
         Ok(account) => ask_kept(file, keep(file, account), tickets, ticket),
-        Err(refusal) => refused(Ticketed {
-            ticket: 0,
-            answer: Err(refusal),
-        }),
+        Err(refusal) => refused_with(0, refusal),
     }
 }
 
@@ -115,10 +118,7 @@ fn withdraw_kept(file: &[u8], kept: Kept, tickets: &[u8]) -> Asked
     match put_in(file, kept, tickets) {
         Err(told) => refused(told),
         Ok(held) => match withdraw(file, tickets, held.kept) {
-            Err(refusal) => refused(Ticketed {
-                ticket: held.count,
-                answer: Err(refusal),
-            }),
+            Err(refusal) => refused_with(held.count, refusal),
             Ok(less) => Asked {
                 ticket: held.count,
                 answer: Ok(()),
@@ -135,9 +135,6 @@ pub fn ask_withdrawn(file: &[u8], tickets: &[u8]) -> Asked
 {
     match check_file(file) {
         Ok(account) => withdraw_kept(file, keep(file, account), tickets),
-        Err(refusal) => refused(Ticketed {
-            ticket: 0,
-            answer: Err(refusal),
-        }),
+        Err(refusal) => refused_with(0, refusal),
     }
 }

@@ -135,7 +135,12 @@ fn row_fault<'a>(file: &'a [u8], none: &'a [u8], account: Account, rows: usize, 
 }
 
 // What a ticket is told.
-pub fn check_ticket<'a>(file: &'a [u8], none: &'a [u8], counts: Counts, ticket: &[u8]) -> Result<(), Refusal>
+pub fn check_ticket<'a>(
+    file: &'a [u8],
+    none: &'a [u8],
+    counts: Counts,
+    ticket: &[u8],
+) -> Result<(), Refusal>
     requires { (none.now ≡ []) × CountedIn file.now counts }
     ensures { (tickets : List Record) → CountsOf file.now tickets counts → result ≡ ticket_checked (with_tickets file.now tickets)
         ticket.now }

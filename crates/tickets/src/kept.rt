@@ -124,7 +124,12 @@ pub fn kept_total(file: &[u8], kept: Kept) -> Amount
 }
 
 // A question's answer, at the front of `out`. A refusal writes nothing.
-pub fn kept_answer(file: &[u8], kept: Kept, question: Question, out: &mut [i64]) -> Result<(), Refusal>
+pub fn kept_answer(
+    file: &[u8],
+    kept: Kept,
+    question: Question,
+    out: &mut [i64],
+) -> Result<(), Refusal>
     requires { Keeps file.now kept }
     ensures { (tickets : List Record) → KeptBy file.now tickets kept
         → (result ≡ answer_over (records (with_tickets file.now tickets)) question (length out.old))

@@ -36,7 +36,7 @@ returns-in-Err-add c =
     let ok = file_ok file c.args.kept.counts.account c.requires.counts.from_check in
     let h = c.in-Ok.ensures in
     let r = c.in-Err-add.refusal in
-    c.refused-in-Err-add.ensures
+    c.refused_with.ensures
     ∙ ask_refused file ts ok c.in-Ok.held.count (Ok tt) h.told refl c.args.ticket.now (Err r)
     (sym (ap answer_of c.in-Err-add.is) ∙ c.add.ensures.told ts h.kept) (refused_some refl)
 

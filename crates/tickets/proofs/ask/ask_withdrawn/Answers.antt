@@ -17,5 +17,5 @@ keep-requires c =
 pub returns-in-Err : goal.returns-in-Err
 returns-in-Err c =
     let by = subst (λ (r : Result Account Refusal). CheckedBy c.args.file.now r) c.in-Err.is c.check_file.ensures in
-    c.refused.ensures
+    c.refused_with.ensures
     ∙ withdraw_no_file c.args.file.now (tickets_in c.args.tickets.now) (Err c.in-Err.refusal) by.answer_is (refused_some refl)

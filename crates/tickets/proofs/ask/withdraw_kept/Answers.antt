@@ -34,7 +34,7 @@ returns-in-Err-withdraw c =
     let r = c.in-Err-withdraw.refusal in
     let told = sym (ap answer_of c.in-Err-withdraw.is) ∙ c.withdraw.ensures.told in
     let none = nothing_left file bytes c.in-Ok.held.kept h.kept (Err r) told (refused_some refl) in
-    c.refused-in-Err-withdraw.ensures
+    c.refused_with.ensures
     ∙ withdraw_none file (tickets_in bytes) ok c.in-Ok.held.count (Ok tt) h.told refl (Err r) (h.many ∙ none.0) none.1
 
 pub kept_total-requires : goal.kept_total-requires

@@ -14,7 +14,6 @@ use Rattle.exact.specs.Lists.{least}
 use Rattle.spread.specs.code.Cells.{parity, cell_of, short_if, cell_at, Pooled, formed_in, less_in, after_in, numbers_over, left_in, pool_count}
 use Rattle.spread.specs.Steps.{market_in, Market, long, short, Open, Taker, pool, room, leg_takes, take_from, formed, after, numbers, left}
 use Rattle.spread.specs.Demand.{same_market, draws}
-use Rattle.spread.specs.declared.Leg.{Leg}
 use Rattle.spread.proofs.Spending.{draws_market, draws-tier, take-spend, pool-spend}
 use Rattle.spread.specs.Accepted.{tier_count}
 

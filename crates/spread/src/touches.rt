@@ -79,7 +79,7 @@ fn pass(size: &mut [u64], pool: &[usize], cell: usize, wanted: u64, start: usize
     let mut k = start;
     let mut touches = 0;
     // A while: it goes on only where more is wanted, and stays where it stops.
-    while (0 < due) & (k < MOST_PROMPTS) {
+    while 0 < due && k < MOST_PROMPTS {
         let given = gives(cell, due, pool[k], size[k]);
         size[k] -= given;
         due -= given;

@@ -5,26 +5,20 @@
 use spread::book::{Book, delta_book};
 use spread::{Delta, Leg, MOST_PROMPTS, MOST_SPREADS, Prompts, Spread, Table};
 
-fn no_prompts() -> Prompts {
-    Prompts {
-        count: 0,
-        tier: [0; 32],
-        net: [Delta(0); 32],
+// Prompts by their tiers and net deltas, the earliest of a tier first; none beyond the most.
+fn prompts(given: &[(u8, i64)]) -> Prompts {
+    let count = given.len().min(MOST_PROMPTS);
+    let mut tier = [0; MOST_PROMPTS];
+    let mut net = [Delta(0); MOST_PROMPTS];
+    for k in 0..count {
+        tier[k] = given[k].0;
+        net[k] = Delta(given[k].1);
     }
+    Prompts { count, tier, net }
 }
 
-// One prompt more, the later of its tier; none beyond the most.
-fn prompt(mut prompts: Prompts, tier: u8, net: i64) -> Prompts {
-    let k = prompts.count;
-    if k < MOST_PROMPTS {
-        prompts.tier[k] = tier;
-        prompts.net[k] = Delta(net);
-        prompts.count = k + 1;
-    }
-    prompts
-}
-
-fn no_spreads() -> Table {
+// Spreads of leg A against leg B, by their tiers and ratios; none beyond the most.
+fn table(given: &[(u8, u16, u8, u16)], tenths: bool) -> Table {
     let none = Leg {
         tier: 0,
         side: 0,
@@ -32,42 +26,30 @@ fn no_spreads() -> Table {
     };
     let unused = Spread {
         legs: 0,
-        leg: [none; 3],
         tenths: false,
+        leg: [none; 3],
     };
-    Table {
-        count: 0,
-        spread: [unused; 32],
+    let count = given.len().min(MOST_SPREADS);
+    let mut spread = [unused; MOST_SPREADS];
+    for k in 0..count {
+        let (a, a_ratio, b, b_ratio) = given[k];
+        let long = Leg {
+            tier: a,
+            side: 1,
+            ratio: a_ratio,
+        };
+        let short = Leg {
+            tier: b,
+            side: 2,
+            ratio: b_ratio,
+        };
+        spread[k] = Spread {
+            legs: 2,
+            tenths,
+            leg: [long, short, short],
+        };
     }
-}
-
-// One spread more of leg A against leg B; none beyond the most.
-fn pair(mut table: Table, a: u8, a_ratio: u16, b: u8, b_ratio: u16, in_tenths: bool) -> Table {
-    let k = table.count;
-    let long = Leg {
-        tier: a,
-        side: 1,
-        ratio: a_ratio,
-    };
-    let short = Leg {
-        tier: b,
-        side: 2,
-        ratio: b_ratio,
-    };
-    let one = Spread {
-        legs: 2,
-        leg: [long, short, short],
-        tenths: in_tenths,
-    };
-    if k < MOST_SPREADS {
-        table.spread[k] = one;
-        table.count = k + 1;
-    }
-    table
-}
-
-fn spread(table: Table, a: u8, a_ratio: u16, b: u8, b_ratio: u16) -> Table {
-    pair(table, a, a_ratio, b, b_ratio, false)
+    Table { count, spread }
 }
 
 fn print_delta(rt: &impl Print, delta: Delta) {
@@ -108,65 +90,53 @@ fn print_case(rt: &impl Print, prompts: Prompts, table: Table) {
 
 fn p1(rt: &impl Print) {
     let _ = println!(rt; "P1");
-    let mut p = no_prompts();
-    p = prompt(p, 1, -300000);
-    p = prompt(p, 2, 200000);
-    p = prompt(p, 2, -50000);
-    p = prompt(p, 3, 1000000);
-    p = prompt(p, 3, -100000);
-    p = prompt(p, 3, -100000);
-    let mut t = no_spreads();
-    t = spread(t, 1, 1, 1, 1);
-    t = spread(t, 2, 1, 2, 1);
-    t = spread(t, 3, 1, 3, 1);
-    t = spread(t, 1, 1, 2, 1);
-    t = spread(t, 2, 1, 3, 1);
-    t = spread(t, 1, 1, 3, 1);
+    let p = prompts(&[
+        (1, -300000),
+        (2, 200000),
+        (2, -50000),
+        (3, 1000000),
+        (3, -100000),
+        (3, -100000),
+    ]);
+    let t = table(
+        &[
+            (1, 1, 1, 1),
+            (2, 1, 2, 1),
+            (3, 1, 3, 1),
+            (1, 1, 2, 1),
+            (2, 1, 3, 1),
+            (1, 1, 3, 1),
+        ],
+        false,
+    );
     print_case(rt, p, t);
 }
 
 fn p2(rt: &impl Print) {
     let _ = println!(rt; "P2");
-    let mut p = no_prompts();
-    p = prompt(p, 1, 180000);
-    p = prompt(p, 1, -60000);
-    p = prompt(p, 2, -40000);
-    p = prompt(p, 3, 38101);
-    let mut t = no_spreads();
-    t = spread(t, 1, 1, 1, 1);
-    t = spread(t, 1, 1, 2, 1);
-    t = spread(t, 1, 1, 3, 1);
+    let p = prompts(&[(1, 180000), (1, -60000), (2, -40000), (3, 38101)]);
+    let t = table(&[(1, 1, 1, 1), (1, 1, 2, 1), (1, 1, 3, 1)], false);
     print_case(rt, p, t);
 }
 
 fn p3(rt: &impl Print) {
     let _ = println!(rt; "P3");
-    let mut p = no_prompts();
-    p = prompt(p, 1, 30001);
-    p = prompt(p, 1, -50000);
-    let mut t = no_spreads();
-    t = spread(t, 1, 2, 1, 1);
+    let p = prompts(&[(1, 30001), (1, -50000)]);
+    let t = table(&[(1, 2, 1, 1)], false);
     print_case(rt, p, t);
 }
 
 fn p4(rt: &impl Print) {
     let _ = println!(rt; "P4");
-    let mut p = no_prompts();
-    p = prompt(p, 1, 100000);
-    p = prompt(p, 2, -100000);
-    p = prompt(p, 3, -100000);
-    let mut t = no_spreads();
-    t = spread(t, 1, 1, 2, 1);
-    t = spread(t, 1, 1, 3, 1);
+    let p = prompts(&[(1, 100000), (2, -100000), (3, -100000)]);
+    let t = table(&[(1, 1, 2, 1), (1, 1, 3, 1)], false);
     print_case(rt, p, t);
 }
 
 fn tenths(rt: &impl Print) {
     let _ = println!(rt; "2026-03");
-    let mut p = no_prompts();
-    p = prompt(p, 1, 1200000);
-    p = prompt(p, 2, -10012);
-    let t = pair(no_spreads(), 1, 96, 2, 10, true);
+    let p = prompts(&[(1, 1200000), (2, -10012)]);
+    let t = table(&[(1, 96, 2, 10)], true);
     print_case(rt, p, t);
 }
 

@@ -1,20 +1,11 @@
-use Prim.Native.Nat.{ℕ, ◌<◌}
 use native.Mathlib.Omega.{arith}
-use mathlib.Core.Bool.{◌&&◌}
+use mathlib.Core.Bool.{Bool, ◌&&◌, and-false}
+use lib.ListN.{length}
 use mathlib.Core.Path.{sym, ◌∙◌, ap}
 use lib.Dec.{ltb}
-use borrow.Author.Tests.{ltb-true}
-use Rattle.spread.specs.Accepted.{prompt_places}
-use Rattle.spread.proofs.Both.{and_left, and_right}
+use borrow.Author.Tests.{le-ltb}
 use Rattle.spread.proofs.Passing.{one_most, gives_most, turn_less, touches_few, pass_start, pass_turn, pass_end}
 use Rattle.spread.proofs.touches.pass.Goals as goal
-use Rattle.spread.proofs.touches.pass.Goals.{In-loop-due}
-
-more : (c : In-loop-due) → 0 < c.loop-due.due
-more c = ltb-true 0 c.loop-due.due (and_left (ltb 0 c.loop-due.due) (ltb c.loop-due.k prompt_places) c.loop-due-test.true)
-
-place : (c : In-loop-due) → c.loop-due.k < prompt_places
-place c = ltb-true c.loop-due.k prompt_places (and_right (ltb 0 c.loop-due.due) (ltb c.loop-due.k prompt_places) c.loop-due-test.true)
 
 pub loop-due-init : goal.loop-due-init
 loop-due-init c = pass_start c.args.cell c.args.wanted c.args.pool.now c.args.size.now c.args.start c.requires.2
@@ -34,23 +25,27 @@ overflow_add-touches c =
 
 pub loop-due-smaller : goal.loop-due-smaller
 loop-due-smaller c =
-    let at = (goal.at.loop-due-smaller c).In-loop-due in
     let l = c.loop-due in
-    turn_less l.due l.k c.gives-given.result c.further-k.result (more at) (place at) c.further-k.ensures
+    turn_less l.due l.k c.gives-given.result c.further-k.result (omega arith) (omega arith) c.further-k.ensures
 
 pub loop-due-preserved : goal.loop-due-preserved
 loop-due-preserved c =
     let l = c.loop-due in
     pass_turn c.args.cell c.args.wanted c.args.pool.now c.args.size.now l.due l.k l.size l.touches
     c.gives-given.result c.further-k.result c.from-touches.result
-    (omega (arith, place (goal.at.loop-due-preserved c).In-loop-due, c.requires.0)) (c.requires.0 ∙ sym c.requires.1)
+    (omega (arith, c.requires.0)) (c.requires.0 ∙ sym c.requires.1)
     c.gives-given.ensures c.further-k.ensures c.from-touches.ensures l.invariant
 
-pub shape_of-size : goal.shape_of-size
-shape_of-size c = c.loop-due.invariant.size
-
-pub returns : goal.returns
-returns c =
+pub returns-else-k-lt-MOST_PROMPTS : goal.returns-else-k-lt-MOST_PROMPTS
+returns-else-k-lt-MOST_PROMPTS c =
     let l = c.loop-due in
-    pass_end c.args.cell c.args.wanted c.args.pool.now c.args.size.now l.due l.k l.size l.touches
-    (ap (λ (n : ℕ). ltb 0 l.due && ltb l.k n) c.requires.0 ∙ c.loop-due-test.false) l.invariant
+    let cs = c.args.pool.now in
+    pass_end c.args.cell c.args.wanted cs c.args.size.now l.due l.k l.size l.touches
+    (ap (λ (b : Bool). ltb 0 l.due && b) (le-ltb l.k (length cs) (omega (arith, c.requires.0))) ∙ and-false (ltb 0 l.due)) l.invariant
+
+pub returns-after-loop-due : goal.returns-after-loop-due
+returns-after-loop-due c =
+    let l = c.loop-due in
+    let cs = c.args.pool.now in
+    pass_end c.args.cell c.args.wanted cs c.args.size.now l.due l.k l.size l.touches
+    (ap (λ (b : Bool). b && ltb l.k (length cs)) (le-ltb 0 l.due c.loop-due-test.false)) l.invariant

@@ -1,7 +1,5 @@
 use Prim.Native.Nat.{ℕ, ◌+◌}
-use mathlib.Core.Path.{◌≡◌, ap, sym, subst, ◌∙◌}
-use mathlib.Core.Bool.{Bool, false, cond}
-use lib.ListN.{get_or}
+use mathlib.Core.Path.{◌≡◌, subst}
 use native.Mathlib.Omega.{arith}
 use Rattle.account.specs.Check.{most_contracts}
 use Rattle.account.specs.code.Standing.{EitherTo}

@@ -1,4 +1,4 @@
--- Records one after another: a stretch of a file, the records of a file taken one at a time, and the place of a record.
+-- Records one after another: the record before another, the records of a file taken one at a time, and whether any passes a test.
 -- Assumes nothing.
 use Prim.Native.Nat.{ℕ, zero, suc, ◌+◌, ◌-◌, ◌*◌, ◌<◌}
 use mathlib.Core.Path.{◌≡◌, refl, sym, ap, ◌∙◌}

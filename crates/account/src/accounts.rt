@@ -164,8 +164,30 @@ fn lists(counts: &[u16], c: usize) -> bool
     noted(counts, OWN + c) != 0
 }
 
-// What is noted of each part in whichever file supplies it. The notes are an array of this function's own, and both are
-// read before one is chosen, so that several are chosen at once.
+// What is noted of a part in whichever file supplies it. By itself, so that both notes are read before one is chosen, and several at once.
+fn either(late: bool, morning: u16, noon: u16) -> u16
+    ensures { result ≡ cond late noon morning }
+{
+    if late { noon } else { morning }
+}
+
+// The same of the parts of one kind, in the place of the morning's notes.
+fn either_kind(
+    notes: &mut [u16; PARTS],
+    noon: &[u16; PARTS],
+    late: &[bool; CONTRACTS],
+    start: usize,
+)
+    requires { (start % most_contracts ≡ 0) × (start < entry_part) }
+    ensures { (morning : List ℕ) → EitherTo morning noon.now late.now start notes.old
+        → EitherTo morning noon.now late.now (start + most_contracts) notes.new }
+{
+    for c in 0..CONTRACTS {
+        notes[start + c] = either(late[c], notes[start + c], noon[start + c]);
+    }
+}
+
+// The same of every kind that the noon file may supply.
 fn either_notes(
     morning: &[u16; PARTS],
     noon: &[u16; PARTS],
@@ -176,11 +198,7 @@ fn either_notes(
 {
     let mut notes = *morning;
     for kind in 0..ENTRIES / CONTRACTS {
-        for c in 0..CONTRACTS {
-            let v = CONTRACTS * kind + c;
-            let (earlier, later) = (notes[v], noon[v]);
-            notes[v] = if late[c] { later } else { earlier };
-        }
+        either_kind(&mut notes, noon, late, CONTRACTS * kind);
     }
     notes
 }
@@ -229,9 +247,13 @@ fn records_in(counts: &[u16]) -> usize
 pub(crate) fn join(morning: Survey, noon: Survey) -> Account
     ensures { JoinedBy morning noon result }
 {
-    let late = flags(&noon.counts);
-    let first = either_notes(&morning.first, &noon.first, &late);
-    let counts = either_notes(&morning.counts, &noon.counts, &late);
+    let morning_first = morning.first;
+    let morning_counts = morning.counts;
+    let noon_first = noon.first;
+    let noon_counts = noon.counts;
+    let late = flags(&noon_counts);
+    let first = either_notes(&morning_first, &noon_first, &late);
+    let counts = either_notes(&morning_counts, &noon_counts, &late);
     let ContractNumbers { count, number } = numbers_of(&counts, CONTRACTS);
     Account {
         records: records_in(&counts),

@@ -1,9 +1,8 @@
 -- `account::passing::passes_from` meets its contract. Assumes nothing.
 use Prim.Native.Nat.{ℕ}
 use mathlib.Core.Path.{◌≡◌, sym, ◌∙◌}
-use native.Mathlib.Omega.{arith}
 use Rattle.account.specs.code.Passing.{Begins}
-use Rattle.account.proofs.Runs.{none_run, contract_run, begins_read}
+use Rattle.account.proofs.Runs.{contract_run, begins_read}
 use Rattle.account.proofs.passing.passes_from.Goals as goal
 use Rattle.account.proofs.passing.passes_from.Goals.{Else-not-may_run}
 

@@ -47,12 +47,12 @@ returns c =
       margin_is = refl;
       largest_is =
           elim c.if-leads.branch [
-            then-leads w ↦ ap (λ (p : Amount × ℕ). p.0.0) w.place-is ∙ sym (ap (λ (t : Bool). cond {A = ℕ} t s.account.margin.0 s.sums.largest.0) w.if-leads.true)
+            | then-leads w ↦ ap (λ (p : Amount × ℕ). p.0.0) w.place-is ∙ sym (ap (λ (t : Bool). cond {A = ℕ} t s.account.margin.0 s.sums.largest.0) w.if-leads.true)
             | else-leads w ↦ ap (λ (p : Amount × ℕ). p.0.0) w.place-is ∙ sym (ap (λ (t : Bool). cond {A = ℕ} t s.account.margin.0 s.sums.largest.0) w.if-leads.false)
           ];
       place_is =
           elim c.if-leads.branch [
-            then-leads w ↦ ap (λ (p : Amount × ℕ). p.1) w.place-is ∙ sym (ap (λ (t : Bool). cond {A = ℕ} t s.place s.sums.place) w.if-leads.true)
+            | then-leads w ↦ ap (λ (p : Amount × ℕ). p.1) w.place-is ∙ sym (ap (λ (t : Bool). cond {A = ℕ} t s.place s.sums.place) w.if-leads.true)
             | else-leads w ↦ ap (λ (p : Amount × ℕ). p.1) w.place-is ∙ sym (ap (λ (t : Bool). cond {A = ℕ} t s.place s.sums.place) w.if-leads.false)
           ];
       credits_are = refl;

@@ -30,7 +30,6 @@ use Rattle.tickets.specs.declared.kept.Kept.{Kept}
 use Rattle.tickets.proofs.CountLaws.{small}
 use Rattle.tickets.proofs.Taken.{tickets_last}
 
--- ---- how many tickets
 -- ---- accepted or refused
 module _ {A : Type 0} (a : Answer) (x y : A) where
   pub if_yes : number_of a ≡ 0 → cond (not_refused a) x y ≡ x

@@ -1,11 +1,11 @@
 -- A record put among bytes in place: what is moved and what is not are the whole.
 -- Assumes nothing.
-use Prim.Native.Nat.{ℕ, suc, ◌+◌, ◌-◌, ◌≤◌, ◌<◌}
+use Prim.Native.Nat.{ℕ, ◌+◌, ◌-◌, ◌≤◌}
 use native.Mathlib.Omega.{arith}
-use mathlib.Core.Path.{◌≡◌, sym, ap, ap₂, subst, ◌∙◌}
+use mathlib.Core.Path.{◌≡◌, ap, ap₂, ◌∙◌}
 use mathlib.Core.List.{List, ◌++◌, append_assoc}
-use lib.ListN.{length, length-append, length-drop, get_or, set, take, drop, take-append-drop, get_or-append}
-use lib.Seq.{length-take-le, drop_at, drop-drop, take-suc, drop-cons, set_at, get_or-take, take-take, take-append-le, append_snoc}
+use lib.ListN.{length, take, drop}
+use lib.Seq.{length-take-le, drop_at, drop-drop, take-take, take-append-le}
 use Rattle.std.specs.List.{copy_within}
 use Rattle.record.specs.Layout.{record_bytes}
 use Rattle.screen.specs.code.Inserting.{moved_up, inserted}

@@ -1,6 +1,5 @@
 -- The committee's figures: refused as a whole, or one account after the other summed, and the numbers written.
 -- Assumes nothing.
-use lib.ListN.{length}
 use Rattle.committee.proofs.Going.{Going}
 use Rattle.committee.proofs.answer_committee.Given as goal
 

@@ -1,6 +1,5 @@
 -- A run of accounts: refused as a whole, or each account answered in its places, one after the other.
 -- Assumes nothing.
-use lib.ListN.{length}
 use Rattle.runs.proofs.RunLaws.{Going}
 use Rattle.runs.proofs.answer_run.Given as goal
 

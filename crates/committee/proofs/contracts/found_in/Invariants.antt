@@ -1,6 +1,5 @@
 -- A contract after the other, over all places.
 -- Assumes nothing.
-use Rattle.account.specs.Check.{most_contracts}
 use Rattle.committee.proofs.OverContracts.{SoFar}
 use Rattle.committee.proofs.contracts.found_in.Given as goal
 

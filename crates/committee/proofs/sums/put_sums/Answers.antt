@@ -4,7 +4,7 @@ use mathlib.Core.List.{List, ◌++◌, map}
 use Prim.Native.Nat.{ℕ, suc, ◌+◌, zero-le}
 use lib.IntN.{ℤ, pos}
 use mir.Syntax.{w64}
-use mir.Val.{to_z, of_z}
+use mir.Val.{to_z}
 use borrow.Author.Rules.{rules}
 use lib.ListN.{length, length-map, length-set, get_or, set, drop, get_or-map}
 use lib.Seq.{paste, paste-suc, take_all}

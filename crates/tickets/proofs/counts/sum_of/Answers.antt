@@ -8,7 +8,7 @@ use Rattle.tickets.proofs.Counting.{next_sum}
 use Rattle.tickets.proofs.counts.sum_of.Goals as goal
 
 pub loop-i-init : goal.loop-i-init
-loop-i-init c = (refl, (omega arith, omega arith))
+loop-i-init c = (refl, omega arith)
 
 pub overflow_add-total : goal.overflow_add-total
 overflow_add-total c =
@@ -18,8 +18,7 @@ overflow_add-total c =
       c.number_at-total.ensures,
       c.requires.1
           l.i,
-      l.invariant.1.1,
-      l.invariant.1.0,
+      l.invariant.1,
       c.requires.0,
     )
 
@@ -29,11 +28,11 @@ loop-i-preserved c =
     let xs = c.args.numbers.now in
     let e = c.number_at-total.ensures in (
       omega (arith, e, l.invariant.0, next_sum xs l.i) ∙ ap (λ (m : ℕ). sum (take m xs)) (sym (add-one l.i)),
-      (omega (arith, c.loop-i-test.true), omega (arith, e, c.requires.1 l.i, l.invariant.1.1)),
+      omega (arith, e, c.requires.1 l.i, l.invariant.1),
     )
 
 pub returns : goal.returns
 returns c =
     let l = c.loop-i in
-    let e : l.i ≡ c.args.n = omega (arith, l.invariant.1.0, c.loop-i-test.false) in
+    let e : l.i ≡ c.args.n = omega (arith, c.loop-i-test.false) in
     l.invariant.0 ∙ ap (λ (m : ℕ). sum (take m c.args.numbers.now)) e

@@ -8,4 +8,4 @@ use Rattle.exact.specs.Lists.{sum}
 use Rattle.tickets.proofs.counts.sum_of.Given as goal
 
 abbrev pub invariant-loop-i : goal.invariant-loop-i
-invariant-loop-i l = (l.total ≡ sum (take l.i l.numbers)) × ((l.i ≤ l.n) × (l.total ≤ most_records * l.i))
+invariant-loop-i l = (l.total ≡ sum (take l.i l.numbers)) × (l.total ≤ most_records * l.i)

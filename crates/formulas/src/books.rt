@@ -14,6 +14,17 @@ use spread::book::put_book;
 use spread::touches::put_counted;
 use spread::{MOST_PROMPTS, MOST_SPREADS};
 
+// Nothing is used: what is unused are the net deltas. One by one, so that no memmove is called.
+fn put_unused(nets: &[i64; MOST_PROMPTS], unused: &mut [i64; MOST_PROMPTS])
+    requires { (length nets.now ≡ prompt_places) × (length unused.old ≡ prompt_places) }
+    ensures { unused.new ≡ nets.now }
+{
+    for i in 0..MOST_PROMPTS {
+        let net = nets[i];
+        unused[i] = net;
+    }
+}
+
 // The book of a contract's interprompt spreads, over its prompts and their net deltas, in lent arrays of zeros. Without spreads nothing is used. Where
 // it is asked for, how often the steps take of a prompt: the contract's tiers and its table are made once for both.
 pub fn put_contract_book(
@@ -35,7 +46,7 @@ pub fn put_contract_book(
         (opens_with (records prompts.now) nets.now)) × (result ≤ most_touches) }
 {
     if spreads.len() < RECORD_BYTES {
-        *unused = *nets;
+        put_unused(nets, unused);
         return 0;
     }
     let mut tiers = [0u8; MOST_PROMPTS];

@@ -1,11 +1,9 @@
 // A contract's prompts and interprompt spreads, and the intercontract spreads, as the spread steps take them.
 ghost use Rattle.std.specs.Prelude.{◌≡◌, map, ◌≤◌, length, take};
 ghost use Rattle.record.specs.Layout as Layout;
-ghost use Rattle.record.specs.Layout.{Record};
 ghost use Rattle.account.specs.Check.{most_prompts, most_spreads, most_entries};
 ghost use Rattle.account.specs.Records.{records, record_count};
-ghost use Rattle.spread.specs.Accepted.{prompt_places, spread_places};
-ghost use Rattle.spread.specs.declared.Spread.{Spread};
+ghost use Rattle.spread.specs.Accepted.{prompt_places};
 ghost use Rattle.formulas.specs.Deltas as Deltas;
 ghost use Rattle.formulas.specs.Deltas.{leg_of};
 ghost use Rattle.formulas.specs.code.Tables.{TiersOf, TableOf};
@@ -43,12 +41,6 @@ const NO_LEG: Leg = Leg {
     ratio: 0,
 };
 
-const NO_SPREAD: Spread = Spread {
-    legs: 0,
-    leg: [NO_LEG; 3],
-    tenths: false,
-};
-
 // The first contract is A.
 fn intercontract(e: &[u8]) -> Spread
     ensures { result ≡ Deltas.intercontract e.now }
@@ -70,20 +62,12 @@ fn intercontract(e: &[u8]) -> Spread
     }
 }
 
-// The table of the spreads that records stand for, in file order.
-fn table_of<F: Fn(&[u8]) -> Spread>(file: &[u8], spread: F) -> Table
-    requires room { record_count file.now ≤ spread_places }
-    requires callable { F.IsAlwaysCallable spread }
-    ensures { (made : Record → Spread) → ((r : _) (s : Spread) → F.post spread r s → s ≡ made r.now) → TableOf made file.now result }
-{
-    let mut table = Table {
-        count: file.len() / RECORD_BYTES,
-        spread: [NO_SPREAD; MOST_SPREADS],
-    };
-    for (i, r) in file.chunks_exact(RECORD_BYTES).enumerate() {
-        table.spread[i] = spread(r);
+fn no_spread() -> Spread {
+    Spread {
+        legs: 0,
+        leg: [NO_LEG, NO_LEG, NO_LEG],
+        tenths: false,
     }
-    table
 }
 
 // The table of a contract's interprompt spreads, in file order.
@@ -91,7 +75,14 @@ pub fn interprompt_table(spreads: &[u8]) -> Table
     requires { record_count spreads.now ≤ most_spreads }
     ensures { TableOf Deltas.interprompt spreads.now result }
 {
-    table_of(spreads, interprompt)
+    let mut table = Table {
+        count: spreads.len() / RECORD_BYTES,
+        spread: [no_spread(); MOST_SPREADS],
+    };
+    for (i, r) in spreads.chunks_exact(RECORD_BYTES).enumerate() {
+        table.spread[i] = interprompt(r);
+    }
+    table
 }
 
 // The table of intercontract spreads, in file order.
@@ -99,7 +90,14 @@ pub fn intercontract_table(entries: &[u8]) -> Table
     requires { record_count entries.now ≤ most_entries }
     ensures { TableOf Deltas.intercontract entries.now result }
 {
-    table_of(entries, intercontract)
+    let mut table = Table {
+        count: entries.len() / RECORD_BYTES,
+        spread: [no_spread(); MOST_SPREADS],
+    };
+    for (i, r) in entries.chunks_exact(RECORD_BYTES).enumerate() {
+        table.spread[i] = intercontract(r);
+    }
+    table
 }
 
 // The tiers of a contract's prompts, in lent places.

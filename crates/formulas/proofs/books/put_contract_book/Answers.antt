@@ -1,6 +1,6 @@
 -- The spread steps accept a contract's prompts and spreads, their book is the contract's, and so is what they touch.
 -- Assumes nothing.
-use mathlib.Core.Path.{sym, refl, ◌∙◌}
+use mathlib.Core.Path.{sym, ◌∙◌}
 use mathlib.Core.Bool.{true≢false}
 use Prim.Native.Nat.{zero-le}
 use native.Mathlib.Omega.{arith}
@@ -19,7 +19,7 @@ returns-then-spreads-lt-RECORD_BYTES c =
     let nets = c.args.nets.now in record {
       book = unspread prompts spreads nets c.args.first.now c.args.second.now c.args.used.now _ c.if-spreads-lt-RECORD_BYTES.true
           (search rules) c.requires.0.nets_beyond c.requires.1.0.0 c.requires.1.0.1
-          c.requires.1.1.0 refl;
+          c.requires.1.1.0 c.put_unused.ensures;
       touched = λ asked. (untouched spreads (opens_with prompts nets) c.if-spreads-lt-RECORD_BYTES.true, zero-le);
     }
 

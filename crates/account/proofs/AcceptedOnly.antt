@@ -1,6 +1,6 @@
 -- What is accepted, by its number.
 -- Assumes nothing.
-use Rattle.std.specs.Prelude.{true, false, Result, Ok, Err}
+use Rattle.std.specs.Prelude.{true, false, Ok, Err}
 use Rattle.std.specs.Result.{is_err}
 use Prim.Native.Nat.{ℕ, suc}
 use native.Mathlib.Omega.{arith}

@@ -21,11 +21,10 @@ use Rattle.account.specs.Parts.{rates_of}
 use Rattle.account.specs.Records.{records, record_count}
 use Rattle.account.specs.code.Standing.{lists, listed_in, from_noon, either_note, Filled, Flagged, JoinedBy, AloneBy, Places, Stands, CheckedBy}
 use Rattle.account.specs.Joined.{account_of}
-use Rattle.account.specs.code.Surveyed.{Surveyed, Empty, Tallied}
+use Rattle.account.specs.code.Surveyed.{Surveyed, Tallied}
 use Rattle.account.specs.declared.check.Survey.{Survey}
 use Rattle.account.specs.declared.accounts.Account.{Account}
-use Rattle.account.proofs.Going as Going
-use Rattle.account.proofs.Going.{same_survey, tallied_as, unconverted}
+use Rattle.account.proofs.Going.{same_survey, unconverted}
 use Rattle.account.proofs.AcceptedOnly.{accepted_only}
 use Rattle.account.proofs.RateLaws.{lawful_of, no_other_row}
 use Rattle.account.proofs.Lawful.{recorded}

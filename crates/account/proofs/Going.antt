@@ -32,13 +32,12 @@ use Rattle.account.proofs.AcceptedOnly.{refused_some}
 use Rattle.account.proofs.Earlier.{cut_more}
 use Rattle.account.proofs.Every.{none_passes}
 use Rattle.account.proofs.Faults.{same_fault}
-use Rattle.account.proofs.Firsts.{number_refusal}
 use Rattle.account.proofs.Laid.{Faultless}
 use Rattle.account.proofs.Named.{stays}
 use Rattle.account.proofs.Noted.{Noted, noted_none, noted_more}
 use Rattle.account.proofs.Orders.{cut_at}
 use Rattle.account.proofs.Passed.{passed, Known, known_of, part_bound}
-use Rattle.account.proofs.Verdict.{stops, ends, by_records, fault_number}
+use Rattle.account.proofs.Verdict.{stops, ends, by_records}
 use Rattle.account.proofs.Walk.{length_cut}
 
 pub count_most : (p : Record → Bool) (xs : List Record) → count p xs ≤ length xs

@@ -1,11 +1,10 @@
 -- A ticket added: refused, or put among the lent bytes where it stands.
 -- Assumes nothing.
 use Rattle.std.proofs.lemmas.Result.{err_from_is_err_and}
-use mathlib.Core.Path.{◌≡◌, sym, ◌∙◌}
+use mathlib.Core.Path.{sym, ◌∙◌}
 use Prim.Native.Nat.{◌≤◌}
 use native.Mathlib.Omega.{arith}
 use lib.ListN.{length}
-use lib.Seq.{length-take-le}
 use Rattle.screen.specs.Screen.{held}
 use Rattle.screen.proofs.AddingLaws.{whole, none_lent, refused, no_room_lem, at_named, room}
 use Rattle.screen.proofs.add.Goals as goal

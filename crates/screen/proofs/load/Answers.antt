@@ -17,8 +17,8 @@ slice_bounds-check-end c =
     let l = c.if-lent-named.false in
     sym (length-take-le a.named a.lent.now (omega (arith, l)))
 
-pub returns : goal.returns
-returns c =
+pub returns-else-lent-named : goal.returns-else-lent-named
+returns-else-lent-named c =
     let a = c.args in
     let l = c.if-lent-named.false in
     c.check.ensures ∙ sym (all_lent a.lent.now a.named (omega (arith, l)))

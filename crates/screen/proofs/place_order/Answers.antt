@@ -2,7 +2,7 @@
 -- Assumes nothing.
 use Rattle.std.specs.Prelude.{Result, Ok}
 use Rattle.std.proofs.lemmas.Result.{err_from_is_err_and}
-use mathlib.Core.Path.{◌≡◌, sym, ap, ◌∙◌, subst}
+use mathlib.Core.Path.{sym, ap, ◌∙◌, subst}
 use Rattle.account.specs.code.Standing.{CheckedBy}
 use Rattle.account.specs.declared.accounts.Account.{Account}
 use Rattle.account.specs.declared.answers.Refusal.{Refusal}

@@ -1,11 +1,9 @@
 -- Contract after contract, until one has a row with a fault.
 -- Assumes nothing.
-use Prim.Native.Nat.{◌-◌, ◌≤◌}
 use mathlib.Core.Path.{◌≡◌}
 use Rattle.account.specs.Checked.{rates_checked}
 use Rattle.account.specs.Records.{records}
 use Rattle.account.specs.Joined.{account_of}
-use Rattle.account.specs.Check.{most_contracts}
 use Rattle.account.proofs.RateLaws.{rows_on_from, rows_before}
 use Rattle.account.proofs.accounts.conversions_answer.Given as goal
 

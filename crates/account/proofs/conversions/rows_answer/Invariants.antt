@@ -1,6 +1,5 @@
 -- Row after row, until one has a fault.
 -- Assumes nothing.
-use Prim.Native.Nat.{◌-◌, ◌≤◌}
 use mathlib.Core.Path.{◌≡◌}
 use mathlib.Core.List.{List}
 use Rattle.record.specs.Layout.{Record}
@@ -8,7 +7,7 @@ use Rattle.record.specs.Within.{RateWithin}
 use Rattle.account.specs.Accepted.{Each}
 use Rattle.account.specs.Checked.{first_rate_fault}
 use Rattle.account.specs.code.Rates.{RatesOf}
-use Rattle.account.specs.Records.{records, record_count}
+use Rattle.account.specs.Records.{records}
 use Rattle.account.proofs.RateLaws.{rows_from}
 use Rattle.account.proofs.conversions.rows_answer.Given as goal
 

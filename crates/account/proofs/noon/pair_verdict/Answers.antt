@@ -1,6 +1,5 @@
 -- The verdict on the records, then on the rates.
 -- Assumes nothing.
-use native.Mathlib.Omega.{arith}
 use mathlib.Core.Path.{◌≡◌, sym, ap, ◌∙◌}
 use Rattle.account.proofs.AcceptedOnly.{err_some, err_none}
 use Rattle.account.specs.Answers.{number_of}

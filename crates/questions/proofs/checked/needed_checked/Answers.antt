@@ -1,6 +1,6 @@
 -- How many numbers the answer of a question has, of a checked file: none of a refused one.
 -- Assumes nothing.
-use Rattle.std.specs.Prelude.{Result, Ok, Err}
+use Rattle.std.specs.Prelude.{Result}
 use mathlib.Core.Path.{subst}
 use Rattle.account.specs.code.Standing.{CheckedBy}
 use Rattle.account.specs.declared.accounts.Account.{Account}

@@ -1,7 +1,7 @@
 -- Everything that a checked file is asked for: its refusal three times, or what the account answers that stands in it alone.
 -- Assumes nothing.
 use mathlib.Core.Bool.{true, false}
-use Rattle.std.specs.Prelude.{Result, Ok, Err}
+use Rattle.std.specs.Prelude.{Result}
 use mathlib.Core.Path.{subst}
 use Rattle.account.specs.code.Standing.{CheckedBy}
 use Rattle.account.specs.declared.accounts.Account.{Account}

@@ -1,7 +1,6 @@
 -- A question over a pair that is checked: its refusal, or what the joined account answers.
 -- Assumes nothing.
 use mathlib.Core.Path.{◌≡◌, sym, ◌∙◌}
-use native.Mathlib.Omega.{arith}
 use Rattle.account.proofs.AcceptedOnly.{err_some, err_none}
 use Rattle.account.specs.Answers.{number_of}
 use Rattle.questions.proofs.NoonLaws.{pair_stands, answer_refused, answer_accepted}

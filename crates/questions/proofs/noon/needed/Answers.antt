@@ -1,7 +1,6 @@
 -- How many numbers the answer of a question has, over a pair of files: none of a refused pair.
 -- Assumes nothing.
 use mathlib.Core.Path.{◌≡◌, sym, ◌∙◌}
-use native.Mathlib.Omega.{arith}
 use Rattle.account.proofs.AcceptedOnly.{err_some, err_none}
 use Rattle.account.specs.Answers.{number_of}
 use Rattle.questions.proofs.NoonLaws.{pair_stands, none_needed, needed_accepted}

@@ -1,6 +1,6 @@
 -- The file is checked first.
 -- Assumes nothing.
-use Rattle.std.specs.Prelude.{Result, Ok, Err}
+use Rattle.std.specs.Prelude.{Result, Err}
 use mathlib.Core.Path.{refl, subst, ◌∙◌}
 use Rattle.account.specs.code.Standing.{CheckedBy}
 use Rattle.account.specs.declared.accounts.Account.{Account}

@@ -1,7 +1,6 @@
 -- The tickets are gone through one after the other; what is told of all is what is told of those still to come.
 -- Assumes nothing.
 use mathlib.Core.Path.{◌≡◌}
-use Prim.Native.Nat.{◌≤◌}
 use Rattle.account.specs.Records.{cut}
 use Rattle.tickets.specs.Asked.{one_by_one}
 use Rattle.tickets.specs.code.Kept.{KeptBy}

@@ -42,18 +42,16 @@ fn noon_spread(noon: Survey) -> Result<(), Refusal>
 fn verdict_of(morning: Survey, noon: Survey, records: usize) -> Verdict
     ensures { result ≡ verdict_by morning noon records }
 {
-    let first = morning.answer;
-    if first.is_err() {
+    if morning.answer.is_err() {
         return Verdict {
             file: MORNING,
-            answer: first,
+            answer: morning.answer,
         };
     }
-    let second = noon.answer;
-    if second.is_err() {
+    if noon.answer.is_err() {
         return Verdict {
             file: NOON,
-            answer: second,
+            answer: noon.answer,
         };
     }
     let third = noon_spread(noon);
@@ -94,8 +92,7 @@ fn pair_verdict<'a>(
     ensures { result ≡ joined_verdict morning.now noon.now }
 {
     let verdict = verdict_of(first, second, record_total(account));
-    let answer = verdict.answer;
-    if answer.is_err() {
+    if verdict.answer.is_err() {
         return verdict;
     }
     if first.converts | second.converts {
@@ -159,8 +156,7 @@ pub fn prompt_place<'a>(morning: &'a [u8], noon: &'a [u8], contract: usize) -> P
     let second = take_survey(noon);
     let account = join(first, second);
     let verdict = pair_verdict(morning, noon, first, second, account);
-    let answer = verdict.answer;
-    if answer.is_err() {
+    if verdict.answer.is_err() {
         return nowhere();
     }
     if CONTRACTS <= contract {

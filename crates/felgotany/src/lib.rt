@@ -152,12 +152,9 @@ pub extern "C" fn felgotany_all(
         × (uses.new ≡ all_uses_after file.now uses.old))) }
 {
     let asked = ask_all(file, figures, books, uses);
-    let of_figures = asked.figures;
-    let of_books = asked.books;
-    let of_uses = asked.uses;
-    let first = tell(of_figures);
-    let second = tell(of_books);
-    let third = tell(of_uses);
+    let first = tell(asked.figures);
+    let second = tell(asked.books);
+    let third = tell(asked.uses);
     Outcomes {
         figures: first,
         books: second,
@@ -177,8 +174,7 @@ pub struct PairOutcome {
 fn tell_of(verdict: Verdict) -> PairOutcome
     ensures { TellsOf verdict result }
 {
-    let answer = verdict.answer;
-    let told = tell(answer);
+    let told = tell(verdict.answer);
     PairOutcome {
         file: verdict.file,
         refusal: told.refusal,
@@ -285,12 +281,9 @@ pub extern "C" fn felgotany_joined_all<'a>(
         × (uses.new ≡ after_joined_all true morning.now noon.now uses.old) }
 {
     let asked = questions::noon::ask_all(morning, noon, figures, books, uses);
-    let of_figures = asked.figures;
-    let of_books = asked.books;
-    let of_uses = asked.uses;
-    let first = tell_of(of_figures);
-    let second = tell_of(of_books);
-    let third = tell_of(of_uses);
+    let first = tell_of(asked.figures);
+    let second = tell_of(asked.books);
+    let third = tell_of(asked.uses);
     PairOutcomes {
         figures: first,
         books: second,
@@ -342,11 +335,9 @@ pub extern "C" fn felgotany_call<'a>(
     ensures { TellsCall (joined_call morning.now noon.now last threshold collateral) result }
 {
     let made = cover_call(morning, noon, last, threshold, collateral);
-    let verdict = made.verdict;
-    let amount = made.amount;
     CallOutcome {
-        outcome: tell_of(verdict),
-        call: amount.0,
+        outcome: tell_of(made.verdict),
+        call: made.amount.0,
     }
 }
 
@@ -463,10 +454,9 @@ pub extern "C" fn felgotany_joined_judge<'a>(
     ensures { TellsPairList (joined_judged morning.now noon.now question prompts numbers.now uses.now) result }
 {
     let said = judge_joined(morning, noon, question, prompts, numbers, uses);
-    let judged = said.judged;
     PairListOutcome {
         file: said.file,
-        list: tell_list(judged),
+        list: tell_list(said.judged),
     }
 }
 
@@ -608,16 +598,13 @@ pub struct TicketOutcome {
 fn tell_asked(asked: Asked) -> TicketOutcome
     ensures { TellsAsked asked result }
 {
-    let answer = asked.answer;
-    let before = asked.before;
-    let after = asked.after;
-    let told = tell(answer);
+    let told = tell(asked.answer);
     TicketOutcome {
         ticket: asked.ticket,
         refusal: told.refusal,
         record: told.record,
-        before: before.0,
-        after: after.0,
+        before: asked.before.0,
+        after: asked.after.0,
     }
 }
 

@@ -43,12 +43,10 @@ fn answer_book(records: usize, asking: Asking, out: &mut [i64]) -> Result<(), Re
     ensures { (whole : List Record) (question : ℕ) → AskedBy whole question records asking
         → (result ≡ answer_over whole (Book question) (length out.old)) × (out.new ≡ after_over whole (Book question) out.old) }
 {
-    let prompts = asking.prompts;
-    let table = asking.table;
-    if out.len() < book_count(prompts, table) {
+    if out.len() < book_count(asking.prompts, asking.table) {
         return Err(Refusal::TooFewNumbers(records));
     }
-    put_asked(out, prompts, table);
+    put_asked(out, asking.prompts, asking.table);
     Ok(())
 }
 

@@ -73,11 +73,9 @@ pub(crate) fn answer_uses(records: usize, asking: Asking, out: &mut [i64]) -> Re
     ensures { (whole : List Record) (question : ℕ) → AskedBy whole question records asking
         → (result ≡ answer_over whole (Uses question) (length out.old)) × (out.new ≡ after_over whole (Uses question) out.old) }
 {
-    let prompts = asking.prompts;
-    let table = asking.table;
-    if out.len() < uses_count(prompts, table) {
+    if out.len() < uses_count(asking.prompts, asking.table) {
         return Err(Refusal::TooFewNumbers(records));
     }
-    put_uses(out, prompts, table);
+    put_uses(out, asking.prompts, asking.table);
     Ok(())
 }

@@ -9,7 +9,7 @@ ghost use Rattle.questions.specs.code.Held.{PairAllAnswered};
 use account::accounts::record_total;
 use account::answers::Refusal;
 use account::noon::{CheckedPair, JOINED, Verdict, check_pair};
-use exact::signed::{below, magnitude};
+use exact::signed::magnitude;
 use formulas::amount::Amount;
 use margin::asking::{Question, answer_over, needed_over};
 use margin::everything::{everything_over, total_over};
@@ -36,13 +36,10 @@ fn answer_pair<'a>(
     ensures { (result ≡ joined_answer morning.now noon.now question (length out.old))
         × (out.new ≡ after_joined morning.now noon.now question out.old) }
 {
-    let verdict = checked.verdict;
-    let refusal = verdict.answer;
-    if refusal.is_err() {
-        return verdict;
+    if checked.verdict.answer.is_err() {
+        return checked.verdict;
     }
-    let account = checked.account;
-    of_joined(answer_over(morning, noon, account, question, out))
+    of_joined(answer_over(morning, noon, checked.account, question, out))
 }
 
 // A question's answer over the joined account, at the front of `out`. A refusal writes nothing.
@@ -50,8 +47,7 @@ pub fn answer<'a>(morning: &'a [u8], noon: &'a [u8], question: Question, out: &m
     ensures { (result ≡ joined_answer morning.now noon.now question (length out.old))
         × (out.new ≡ after_joined morning.now noon.now question out.old) }
 {
-    let checked = check_pair(morning, noon);
-    answer_pair(morning, noon, checked, question, out)
+    answer_pair(morning, noon, check_pair(morning, noon), question, out)
 }
 
 // How many numbers the answer of a question has, 0 where there is none.
@@ -59,13 +55,10 @@ pub fn needed<'a>(morning: &'a [u8], noon: &'a [u8], question: Question) -> usiz
     ensures { (result ≡ joined_need morning.now noon.now question) × (result ≤ most_for question) }
 {
     let checked = check_pair(morning, noon);
-    let verdict = checked.verdict;
-    let refusal = verdict.answer;
-    if refusal.is_err() {
+    if checked.verdict.answer.is_err() {
         return 0;
     }
-    let account = checked.account;
-    needed_over(morning, noon, account, question)
+    needed_over(morning, noon, checked.account, question)
 }
 
 // What a pair of files is answered that is asked for everything: its figures, the books of all questions, and their uses.
@@ -89,23 +82,18 @@ pub fn ask_all<'a>(
 {
     let checked = check_pair(morning, noon);
     let verdict = checked.verdict;
-    let refusal = verdict.answer;
-    if refusal.is_err() {
+    if verdict.answer.is_err() {
         return AskedPair {
             figures: verdict,
             books: verdict,
             uses: verdict,
         };
     }
-    let account = checked.account;
-    let all = everything_over(morning, noon, account, figures, books, uses);
-    let of_figures = all.figures;
-    let of_books = all.books;
-    let of_uses = all.uses;
+    let all = everything_over(morning, noon, checked.account, figures, books, uses);
     AskedPair {
-        figures: of_joined(of_figures),
-        books: of_joined(of_books),
-        uses: of_joined(of_uses),
+        figures: of_joined(all.figures),
+        books: of_joined(all.books),
+        uses: of_joined(all.uses),
     }
 }
 
@@ -115,7 +103,7 @@ const MOST_AMOUNT: i64 = 1000000000000000;
 fn beyond_amount(z: i64) -> bool
     ensures { result ≡ beyond_amount z }
 {
-    below(z, 0) | below(MOST_AMOUNT, z)
+    (z < 0) | (MOST_AMOUNT < z)
 }
 
 // "None unless the requirement exceeds the last cover call plus the threshold and also the revalued collateral; otherwise
@@ -152,8 +140,7 @@ pub fn cover_call<'a>(
 {
     let checked = check_pair(morning, noon);
     let verdict = checked.verdict;
-    let refusal = verdict.answer;
-    if refusal.is_err() {
+    if verdict.answer.is_err() {
         return Call {
             verdict,
             amount: Amount(0),

@@ -9,7 +9,7 @@ ghost use Rattle.screen.specs.code.Held.{placed_in, asked_in, total_in};
 use crate::inserting::insert;
 use account::accounts::{check, check_file, nothing_of};
 use account::answers::Refusal;
-use exact::signed::{below, magnitude};
+use exact::signed::magnitude;
 use formulas::amount::Amount;
 use margin::everything::total_over;
 use record::bytes::RECORD_BYTES;
@@ -106,7 +106,7 @@ fn weigh(limit: u64, total: Amount) -> Limited
 pub fn limit(lent: &[u8], named: usize, ticket: &[u8], limit: i64) -> Result<Limited, Refusal>
     ensures { result ≡ limited lent.now named ticket.now limit }
 {
-    if below(limit, 0) {
+    if limit < 0 {
         return Err(Refusal::LimitBelowZero);
     }
     if lent.len() < named {

@@ -154,8 +154,7 @@ pub fn check_ticket<'a>(
         return Err(Refusal::UnknownKind(k));
     }
     let account = counts.account;
-    let rows = counts.rows;
-    let number = row_fault(file, none, account, number_at(&rows, c), ticket);
+    let number = row_fault(file, none, account, number_at(&counts.rows, c), ticket);
     if number != 0 {
         return refusal_of(number, k);
     }

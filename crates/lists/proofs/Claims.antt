@@ -105,6 +105,7 @@ pub pair_claims : (morning noon : List ℕ) (question sent : ℕ) (xs us : List 
 pair_claims morning noon question sent xs us =
     record {
       refused = λ r e. ap (λ (a : Answer). of_pair (joined_verdict morning noon).file (of a)) e;
+      file = λ e. ap (λ (v : PairVerdict). v.file) (joined_accepted morning noon e);
       asked =
           λ e.
           of_account (account_of morning noon) (pair_lawful morning noon e) question sent xs us

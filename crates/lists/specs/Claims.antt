@@ -39,5 +39,6 @@ pub record Claims (file : List ℕ) (question sent : ℕ) (xs us : List ℤ) : T
 pub record PairClaims (morning noon : List ℕ) (question sent : ℕ) (xs us : List ℤ) : Type 0 where
   pub refused : (r : Refusal) → (joined_verdict morning noon).answer ≡ Err r
       → joined_judged morning noon question sent xs us ≡ of_pair (joined_verdict morning noon).file (Err r)
+  pub file : clear (joined_verdict morning noon) ≡ true → (joined_judged morning noon question sent xs us).file ≡ 0
   pub asked : clear (joined_verdict morning noon) ≡ true
       → OfAccount (account_of morning noon) question sent xs us (joined_judged morning noon question sent xs us).judged

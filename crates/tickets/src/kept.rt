@@ -81,7 +81,7 @@ fn without_row<'a>(file: &'a [u8], none: &'a [u8], kept: Kept, row: &[u8]) -> Po
     }
 }
 
-// One ticket more, put last among its contract's rows.
+// One ticket more, put last among its contract's rows. The account that is handed in stays as it was.
 pub fn add(file: &[u8], kept: Kept, ticket: &[u8]) -> Result<Kept, Refusal>
     requires { Keeps file.now kept }
     ensures { AddedTo file.now kept ticket.now result }
@@ -94,7 +94,7 @@ pub fn add(file: &[u8], kept: Kept, ticket: &[u8]) -> Result<Kept, Refusal>
     })
 }
 
-// The latest ticket withdrawn: `tickets` holds those put in so far, one after the other.
+// The latest ticket withdrawn: `tickets` holds those put in so far, one after the other. The account that is handed in stays as it was.
 pub fn withdraw(file: &[u8], tickets: &[u8], kept: Kept) -> Result<Kept, Refusal>
     requires { KeptBy file.now (cut kept.counts.tickets tickets.now) kept }
     ensures { WithdrawnFrom file.now tickets.now kept result }

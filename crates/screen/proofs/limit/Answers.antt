@@ -2,8 +2,7 @@
 -- Assumes nothing.
 use Rattle.std.specs.Prelude.{Ok}
 use Rattle.std.proofs.lemmas.Result.{err_from_is_err_and}
-use mathlib.Core.Path.{◌≡◌, sym, ap, ◌∙◌}
-use mathlib.Core.Bool.{false}
+use mathlib.Core.Path.{sym, ap, ◌∙◌}
 use Prim.Native.Nat.{ℕ, ◌≤◌}
 use native.Mathlib.Omega.{arith}
 use lib.IntN.{pos, nat_abs}
@@ -15,11 +14,7 @@ use Rattle.screen.specs.Screen.{weighed}
 use Rattle.screen.specs.declared.Limited.{Limited}
 use Rattle.screen.proofs.ScreenLaws.{below_zero, limit_lacking, limit_refused, limit_asked}
 use Rattle.screen.proofs.limit.Goals as goal
-use Rattle.screen.proofs.limit.Goals.{Else-below, Else-lent-named}
-
--- the limit is not below zero
-stands : (c : Else-below) → lt_z c.args.limit (pos 0) ≡ false
-stands c = sym (seen (λ x. lt_z x (pos 0)) c.args.limit c.ranges.limit c.below.ensures) ∙ c.if-below.false
+use Rattle.screen.proofs.limit.Goals.{Else-lent-named}
 
 named-lent : (c : Else-lent-named) →
     let a = c.args in
@@ -28,15 +23,15 @@ named-lent c =
     let l = c.if-lent-named.false in
     omega (arith, l)
 
-pub returns-then-below : goal.returns-then-below
-returns-then-below c =
+pub returns-then-limit-lt0 : goal.returns-then-limit-lt0
+returns-then-limit-lt0 c =
     let a = c.args in
-    sym (below_zero a.lent.now a.named a.ticket.now a.limit (sym (seen (λ x. lt_z x (pos 0)) a.limit c.ranges.limit c.below.ensures) ∙ c.if-below.true))
+    sym (below_zero a.lent.now a.named a.ticket.now a.limit (sym (seen (λ x. lt_z x (pos 0)) a.limit c.ranges.limit (sym c.if-limit-lt0.true))))
 
 pub returns-then-lent-named : goal.returns-then-lent-named
 returns-then-lent-named c =
     let a = c.args in
-    sym (limit_lacking a.lent.now a.named a.ticket.now a.limit (stands (goal.at.returns-then-lent-named c).Else-below) c.if-lent-named.true)
+    sym (limit_lacking a.lent.now a.named a.ticket.now a.limit (sym (seen (λ x. lt_z x (pos 0)) a.limit c.ranges.limit (sym c.if-limit-lt0.false))) c.if-lent-named.true)
 
 pub slice_bounds-ask_order-end : goal.slice_bounds-ask_order-end
 slice_bounds-ask_order-end c =
@@ -48,12 +43,12 @@ returns-in_err-total c =
     let a = c.args in
     let p = err_from_is_err_and c.from_residual.result c.from_residual.ensures.1 in
     rw (p.1, p.2)
-    (limit_refused a.lent.now a.named a.ticket.now a.limit (stands (goal.at.returns-in_err-total c).Else-below) (named-lent (goal.at.returns-in_err-total c).Else-lent-named)
+    (limit_refused a.lent.now a.named a.ticket.now a.limit (sym (seen (λ x. lt_z x (pos 0)) a.limit c.ranges.limit (sym c.if-limit-lt0.false))) (named-lent (goal.at.returns-in_err-total c).Else-lent-named)
     c.in_err-total.field-0.0 (sym c.in_err-total.was ∙ c.ask_order.ensures))
 
 pub returns : goal.returns
 returns c =
     let a = c.args in
     ap (λ (l : Limited). Ok l) (c.weigh.ensures ∙ ap (λ (n : ℕ). weighed n c.in_ok-total.total.0) (seen nat_abs a.limit c.ranges.limit c.magnitude.ensures))
-    ∙ limit_asked a.lent.now a.named a.ticket.now a.limit (stands (goal.at.returns c).Else-below) (named-lent (goal.at.returns c).Else-lent-named)
+    ∙ limit_asked a.lent.now a.named a.ticket.now a.limit (sym (seen (λ x. lt_z x (pos 0)) a.limit c.ranges.limit (sym c.if-limit-lt0.false))) (named-lent (goal.at.returns c).Else-lent-named)
     c.in_ok-total.total (sym c.in_ok-total.was ∙ c.ask_order.ensures)

@@ -247,6 +247,7 @@ fn records_in(counts: &[u16]) -> usize
 pub(crate) fn join(morning: Survey, noon: Survey) -> Account
     ensures { JoinedBy morning noon result }
 {
+    // Named first: read where they stand they are copied once more.
     let morning_first = morning.first;
     let morning_counts = morning.counts;
     let noon_first = noon.first;

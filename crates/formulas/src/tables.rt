@@ -70,7 +70,7 @@ fn no_spread() -> Spread {
     }
 }
 
-// The table of a contract's interprompt spreads, in file order.
+// The table of a contract's interprompt spreads, in file order. It and the next are two: one that takes what reads a record copies the table once more.
 pub fn interprompt_table(spreads: &[u8]) -> Table
     requires { record_count spreads.now ≤ most_spreads }
     ensures { TableOf Deltas.interprompt spreads.now result }

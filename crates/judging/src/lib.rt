@@ -13,7 +13,7 @@ use spread::accepted::accepted;
 use spread::stepwise::step_over;
 use spread::{Delta, MOST_PROMPTS, Prompts, Spread, Table};
 
-// What is said of a list. A step is named by its place, from 0.
+// What is said of a list. A step is named by its place, from 0. Other counts are one of the things said (`counts`, Claims), and no `None`.
 #[derive(Clone, Copy)]
 pub enum Verdict {
     Right,

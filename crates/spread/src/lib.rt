@@ -10,7 +10,7 @@ pub mod pools;
 pub mod stepwise;
 pub mod touches;
 
-// The most that a table and its prompts hold.
+// The most that a table and its prompts hold: places with a count beside them, since nothing here is allocated.
 pub const MOST_PROMPTS: usize = 32;
 
 pub const MOST_SPREADS: usize = 32;
@@ -23,7 +23,7 @@ pub struct Delta(pub i64);
 #[derive(Clone, Copy)]
 pub struct Spreads(pub u64);
 
-// A leg: the tier that it draws on, its side (1 = A, 2 = B) and its ratio.
+// A leg: the tier that it draws on, its side (1 = A, 2 = B) and its ratio. The side is a byte, since `accepted` answers of any.
 #[derive(Clone, Copy)]
 pub struct Leg {
     pub tier: u8,

@@ -1,4 +1,4 @@
-// Deltas and numbers of spreads as plain numbers, which can be lent, and back.
+// Deltas and numbers of spreads as plain numbers, which can be lent, and back. One function each: by `array::map` what comes back is not proved.
 ghost use Rattle.std.specs.Prelude.{◌≡◌};
 ghost use Rattle.spread.specs.code.Lent.{deltas_from, deltas_in, spreads_from};
 

@@ -1,12 +1,15 @@
 -- What is accepted, by its number.
 -- Assumes nothing.
-use Rattle.std.specs.Prelude.{true, false, Ok, Err}
-use Rattle.std.specs.Result.{is_err}
+use Rattle.std.specs.Prelude.{List, true, false, Result, Ok, Err}
+use Rattle.std.specs.Result.{is_err, result_and}
 use Prim.Native.Nat.{ℕ, suc}
 use native.Mathlib.Omega.{arith}
 use mathlib.Core.Path.{◌≡◌, refl, ◌∙◌}
 use Rattle.account.specs.Answers.{Answer, and_then, number_of}
+use Rattle.account.specs.Check.{records_checked}
+use Rattle.account.specs.code.Surveyed.{NotedBy}
 use Rattle.account.specs.declared.answers.Refusal.{Refusal}
+use Rattle.account.specs.declared.check.Noted.{Noted}
 use Rattle.account.specs.declared.answers.Refusal.TheVariants.{TooLong, CutRecord, UnknownKind, KindFalls, UnusedByte, FieldOutside, Unlisted}
 use Rattle.account.specs.declared.answers.Refusal.TheVariants.{OutOfOrder, OverLimit, TooFewNumbers, NoSuchQuestion, NoonSpread, TooManyJoined, NoRate}
 use Rattle.account.specs.declared.answers.Refusal.TheVariants.{ConversionBeyond, TooFewBytes, LengthsDiffer, OtherCounts, TooManyAccounts, LimitBelowZero}
@@ -66,3 +69,10 @@ err_some (Err r) e z = refused_some {a = Err r} refl z
 pub err_none : (a : Answer) → is_err a ≡ false → number_of a ≡ 0
 err_none (Ok u) e = refl
 err_none (Err r) e = absurd cc
+
+-- what is refused is not noted
+pub noted_refused :
+    (file first counts : List ℕ) (a : Answer) (next : Result Noted Refusal) → (number_of a ≡ 0 → ⊥) → a ≡ records_checked file
+    → NotedBy file (result_and a next) first counts
+noted_refused file first counts (Ok u) next nz e = absurd (nz refl)
+noted_refused file first counts (Err r) next nz e = e

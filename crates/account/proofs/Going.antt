@@ -107,11 +107,8 @@ module _ {file first counts : List ℕ} {contracts k : ℕ} (g : Going file firs
 
   -- a fault: the verdict
   pub going_stops :
-      {r : Refusal} → Err r ≡ refusal (fault_at file first counts k) k → too_long file ≡ false → cut_record file ≡ false → Err r ≡ records_checked file
-  going_stops e a b =
-      let n = fault_at file first counts k in
-      let nz : n ≡ 0 → ⊥ = λ z. refused_some e (ap (λ (m : ℕ). number_of (refusal m k)) z) in
-      e ∙ sym (by_records file a b ∙ stops file k n more g.fine (sym fault_is) nz)
+      (n : ℕ) → n ≡ fault_at file first counts k → (n ≡ 0 → ⊥) → too_long file ≡ false → cut_record file ≡ false → refusal n k ≡ records_checked file
+  going_stops n e nz a b = sym (by_records file a b ∙ stops file k n more g.fine (sym (e ∙ fault_is)) nz)
 
   -- no fault: what the next turn begins with
   module _ (none : fault_at file first counts k ≡ 0) where

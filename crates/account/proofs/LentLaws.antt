@@ -1,8 +1,9 @@
 -- What is read of the notes of an account that is lent; and an account put in them.
 -- Assumes nothing.
+use Rattle.std.specs.Prelude.{Ok, Err}
 use Prim.Native.Nat.{ℕ, ◌+◌, ◌<◌, ◌≤◌}
 use native.Mathlib.Omega.{arith}
-use mathlib.Core.Path.{◌≡◌, refl, sym, ap, ◌∙◌}
+use mathlib.Core.Path.{◌≡◌, refl, sym, ap, subst, ◌∙◌}
 use mathlib.Core.Bool.{Bool, true, false}
 use mathlib.Core.List.{List, [], ◌∷◌, ◌++◌, map, append_assoc}
 use lib.ListN.{length, get_or, set, take, drop, length-set, length-map}
@@ -12,11 +13,13 @@ use borrow.Rule.Slice.PartMut.{put_mid}
 use Rattle.std.proofs.lemmas.List.Edits.{length-paste}
 use Rattle.std.proofs.lemmas.Slice.{take-put_mid, put_mid-paste}
 use Rattle.exact.specs.Lists.{one_if}
+use Rattle.account.specs.Answers.{Answer}
 use Rattle.account.specs.Check.{most_contracts}
 use Rattle.account.specs.PartNumbers.{parts}
-use Rattle.account.specs.code.Lent.{counts_note, numbers_note, late_note, records_note, listed_note, note_count, flagged, account_in, Lendable}
-use Rattle.account.specs.code.Standing.{Stands}
+use Rattle.account.specs.code.Lent.{counts_note, numbers_note, late_note, records_note, listed_note, note_count, flagged, account_in, Lendable, LentBy}
+use Rattle.account.specs.code.Standing.{Stands, CheckedBy}
 use Rattle.account.specs.declared.accounts.Account.{Account}
+use Rattle.account.specs.declared.answers.Refusal.{Refusal}
 use Rattle.account.proofs.Filled.{take_next}
 
 -- a stretch of the notes, read by its places
@@ -148,3 +151,14 @@ lendable morning noon a st =
       records = omega (arith, st.places.all, st.lawful.limits.all);
       contracts = omega (arith, st.places.contracts, st.lawful.limits.contracts);
     }
+
+-- a file whose account is lent is checked
+pub lent_refused : {file notes : List ℕ} {a : Answer} {r : Refusal} → LentBy file a notes → a ≡ Err r → CheckedBy file (Err r)
+lent_refused {file} {notes} l e =
+    let is = subst (λ (x : Answer). LentBy file x notes) e l in
+    record { answer_is = is.answer_is; accepted = tt }
+
+pub lent_accepted : {file notes : List ℕ} {a : Answer} → LentBy file a notes → a ≡ Ok tt → CheckedBy file (Ok (account_in notes))
+lent_accepted {file} {notes} l e =
+    let is = subst (λ (x : Answer). LentBy file x notes) e l in
+    record { answer_is = is.answer_is; accepted = is.accepted }

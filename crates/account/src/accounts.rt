@@ -15,7 +15,7 @@ ghost use Rattle.account.specs.code.Standing.{EitherTo, Flagged, listed_in, Numb
 ghost use Rattle.account.specs.code.Surveyed.{Tallied};
 
 use crate::answers::Refusal;
-use crate::check::{Survey, note_file};
+use crate::check::{Survey, length_answer, note_records};
 use crate::conversions::rows_answer;
 use crate::notes::noted;
 use crate::parts::{CONTRACTS, ENTRIES, OWN, PARTS, RATES, ROWS};
@@ -268,7 +268,7 @@ pub(crate) fn join(morning: Survey, noon: Survey) -> Account
 
 // An account of so many records and at most so many contracts that stands in one file, by what is noted of its parts: no noon file
 // supplies anything.
-fn in_one_file(
+pub(crate) fn in_one_file(
     first: &[u16; PARTS],
     counts: &[u16; PARTS],
     contracts: usize,
@@ -316,7 +316,7 @@ pub(crate) fn conversions_answer<'a>(
 }
 
 // The same of one file, by what is noted of it.
-fn rates_answer(
+pub(crate) fn rates_answer(
     file: &[u8],
     first: &[u16; PARTS],
     counts: &[u16; PARTS],
@@ -338,9 +338,10 @@ pub fn check_file(file: &[u8]) -> Result<Account, Refusal>
     ensures { CheckedBy file.now result }
 {
     let whole = anew(file);
+    length_answer(whole)?;
     let mut first = [0u16; PARTS];
     let mut counts = [0u16; PARTS];
-    let noted = note_file(whole, &mut first, &mut counts)?;
+    let noted = note_records(whole, &mut first, &mut counts)?;
     rates_answer(whole, &first, &counts, noted.contracts, noted.converts)?;
     Ok(in_one_file(&first, &counts, noted.contracts, record_count(whole)))
 }
@@ -350,8 +351,9 @@ pub fn check(file: &[u8]) -> Result<(), Refusal>
     ensures { result ≡ checked file.now }
 {
     let whole = anew(file);
+    length_answer(whole)?;
     let mut first = [0u16; PARTS];
     let mut counts = [0u16; PARTS];
-    let noted = note_file(whole, &mut first, &mut counts)?;
+    let noted = note_records(whole, &mut first, &mut counts)?;
     rates_answer(whole, &first, &counts, noted.contracts, noted.converts)
 }

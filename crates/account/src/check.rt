@@ -10,7 +10,7 @@ ghost use Rattle.account.specs.Parts.{of_kind};
 ghost use Rattle.account.specs.code.Passing.{Notable, NotedTo, StepBy};
 ghost use Rattle.account.specs.code.Surveyed.{length_checked, Surveyed, Empty, NotedBy};
 
-use crate::answers::Refusal;
+use crate::answers::{Refusal, refusal_of};
 use crate::conversions::is_other_row;
 use crate::fault::fault_at;
 use crate::notes::{noted, part_of};
@@ -96,8 +96,8 @@ pub(crate) struct Step {
     pub(crate) contracts: usize,
 }
 
-// Past record `k`: a run of sound records from it on, or it alone.
-fn go_on(file: &[u8], first: &mut [u16], counts: &mut [u16], k: usize) -> Result<Step, Refusal>
+// Past record `k`: a run of sound records from it on, or it alone; or the number of its fault.
+fn go_on(file: &[u8], first: &mut [u16], counts: &mut [u16], k: usize) -> Result<Step, usize>
     requires { Notable file.now first.old counts.old k }
     ensures { StepBy file.now first.old counts.old k result first.new counts.new }
 {
@@ -109,7 +109,10 @@ fn go_on(file: &[u8], first: &mut [u16], counts: &mut [u16], k: usize) -> Result
             contracts: one_if_contract(whole_at(file, k)),
         });
     }
-    fault_at(file, first, counts, k)?;
+    let number = fault_at(file, first, counts, k);
+    if number != 0 {
+        return Err(number);
+    }
     note_to(file, first, counts, k, k + 1);
     Ok(Step {
         next: k + 1,
@@ -125,7 +128,7 @@ pub(crate) struct Noted {
 }
 
 // The records noted up to the first with a fault, or all of them.
-fn note_records(
+pub(crate) fn note_records(
     file: &[u8],
     first: &mut [u16; PARTS],
     counts: &mut [u16; PARTS],
@@ -139,10 +142,19 @@ fn note_records(
     let mut k = 0;
     // A while: a step passes a run of records.
     while k < count {
-        let passed = go_on(file, first, counts, k)?;
-        contracts += passed.contracts;
-        converts = converts | is_other_row(whole_at(file, k));
-        k = passed.next;
+        match go_on(file, first, counts, k) {
+            Ok(passed) => {
+                contracts += passed.contracts;
+                converts = converts | is_other_row(whole_at(file, k));
+                k = passed.next;
+            }
+            Err(number) => {
+                return refusal_of(number, k).and(Ok(Noted {
+                    contracts,
+                    converts,
+                }));
+            }
+        }
     }
     Ok(Noted {
         contracts,

@@ -1,10 +1,8 @@
 // The first refusal of a record, 3 to 9 in that order, or 0.
 ghost use Rattle.std.specs.Prelude.{◌≡◌, ◌<◌, eqb};
-ghost use Rattle.account.specs.Answers.{refusal};
 ghost use Rattle.account.specs.code.Notes.{fault_by, fault_at};
 ghost use Rattle.account.specs.Records.{records, record_count};
 
-use crate::answers::{Refusal, refusal_of};
 use crate::limits::over_limit;
 use crate::listed::unlisted;
 use crate::order::{kind_falls, out_of_order};
@@ -52,15 +50,15 @@ fn faultless(counts: &[u16], prompts: &[u8], before: &[u8], r: &[u8]) -> bool
 }
 
 // Of record `k`, from the notes of the records before it.
-pub(crate) fn fault_at(file: &[u8], first: &[u16], counts: &[u16], k: usize) -> Result<(), Refusal>
+pub(crate) fn fault_at(file: &[u8], first: &[u16], counts: &[u16], k: usize) -> usize
     requires { k < record_count file.now }
-    ensures { result ≡ refusal (fault_at file.now first.now counts.now k) k }
+    ensures { result ≡ fault_at file.now first.now counts.now k }
 {
     let r = whole_at(file, k);
     let prompts = part_at(file, first, counts, PROMPTS + contract(r));
     let before = whole_before(file, k);
     if faultless(counts, prompts, before, r) {
-        return Ok(());
+        return 0;
     }
-    refusal_of(fault(counts, prompts, before, r), k)
+    fault(counts, prompts, before, r)
 }

@@ -1,14 +1,17 @@
 // An account as it is lent: what it notes in one array, which is read where it stands. Handed on by value an account is copied at each call,
 // and each copy waits for the one before.
-ghost use Rattle.std.specs.Prelude.{◌≡◌, ◌≤◌, length, get_or};
+ghost use Rattle.std.specs.Prelude.{◌≡◌, ◌≤◌, length, get_or, OnErr};
 ghost use Rattle.record.specs.Layout.{most_contract};
 ghost use Rattle.account.specs.Joined.{account_of};
-ghost use Rattle.account.specs.code.Lent.{account_in, note_count, Lendable};
+ghost use Rattle.account.specs.code.Lent.{account_in, note_count, Lendable, LentBy};
 ghost use Rattle.account.specs.code.Standing.{Stands, PartOf, WhereOf};
 
-use crate::accounts::{Account, Whereabouts, supplied};
+use crate::accounts::{Account, Whereabouts, in_one_file, rates_answer, supplied};
+use crate::answers::Refusal;
+use crate::check::{length_answer, note_records};
 use crate::notes::noted;
 use crate::parts::{CONTRACTS, ENTRIES, OWN, PARTS, PROMPTS, RATES, ROWS, SPREADS};
+use crate::stretches::{anew, record_count};
 use std::array;
 
 // Where what is noted begins: of each part where it begins in its file, and how many records it has; the contracts' numbers in order; for
@@ -38,6 +41,24 @@ pub fn lend(account: Account, notes: &mut [u16; NOTES])
     notes[LATE..RECORDS].copy_from_slice(&late);
     notes[RECORDS] = account.records as u16;
     notes[LISTED] = account.contracts as u16;
+}
+
+// What a file is refused for, or its account, which is lent: where it is only asked, nothing hands it out by value. A refusal lends nothing.
+pub fn lend_file(file: &[u8], notes: &mut [u16; NOTES]) -> Result<(), Refusal>
+    ensures lent { LentBy file.now result notes.new }
+    ensures refused { OnErr result (notes.new ≡ notes.old) }
+{
+    let whole = anew(file);
+    length_answer(whole)?;
+    let mut first = [0u16; PARTS];
+    let mut counts = [0u16; PARTS];
+    let noted = note_records(whole, &mut first, &mut counts)?;
+    rates_answer(whole, &first, &counts, noted.contracts, noted.converts)?;
+    lend(
+        in_one_file(&first, &counts, noted.contracts, record_count(whole)),
+        notes,
+    );
+    Ok(())
 }
 
 // How many records the account has.

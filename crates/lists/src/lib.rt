@@ -5,10 +5,11 @@
 ghost use Rattle.std.specs.Prelude.{◌≡◌};
 ghost use Rattle.lists.specs.Lists.{judged_to, joined_judged};
 
-use account::accounts::{check_file, nothing_of};
+use account::accounts::nothing_of;
 use account::answers::Refusal;
+use account::lent::{NOTES, lend_file};
 use account::noon::{JOINED, check_pair};
-use margin::lists::{Judged, judge_over};
+use margin::lists::{Judged, judge_lent, judge_over};
 
 // What is said of a list of spreads that is sent for a question, 0 to 15 for that contract or 16 for the intercontract table. The
 // list has a number for each step, of each spread its first step and then its second, in `numbers`; what each step used of each
@@ -22,11 +23,12 @@ pub fn judge(
 ) -> Result<Judged, Refusal>
     ensures { result ≡ judged_to file.now question sent numbers.now uses.now }
 {
-    let account = check_file(file)?;
-    judge_over(
+    let mut notes = [0u16; NOTES];
+    lend_file(file, &mut notes)?;
+    judge_lent(
         file,
         nothing_of(file),
-        account,
+        &notes,
         question,
         sent,
         numbers,

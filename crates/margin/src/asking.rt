@@ -132,7 +132,7 @@ fn answer_question<'a>(
 }
 
 // A question's answer, at the front of `out`. A refusal writes nothing.
-fn answer_lent<'a>(
+pub fn answer_lent<'a>(
     morning: &'a [u8],
     noon: &'a [u8],
     account: &[u16; NOTES],
@@ -309,7 +309,7 @@ fn uses_need<'a>(
 }
 
 // How many numbers the answer of a question has, 0 where it is not answered.
-fn needed_lent<'a>(
+pub fn needed_lent<'a>(
     morning: &'a [u8],
     noon: &'a [u8],
     account: &[u16; NOTES],

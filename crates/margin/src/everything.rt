@@ -637,7 +637,7 @@ fn lent_answers(
 }
 
 // Everything of an account, and what it is answered.
-fn everything_lent<'a>(
+pub fn everything_lent<'a>(
     morning: &'a [u8],
     noon: &'a [u8],
     account: &[u16; NOTES],
@@ -732,7 +732,7 @@ fn total_in(account: &[u16; NOTES], figures: &[i64; LONGEST_FIGURES]) -> Amount
 }
 
 // That of an account in its files.
-fn total_lent<'a>(morning: &'a [u8], noon: &'a [u8], account: &[u16; NOTES]) -> Amount
+pub fn total_lent<'a>(morning: &'a [u8], noon: &'a [u8], account: &[u16; NOTES]) -> Amount
     requires { Stands morning.now noon.now (account_in account.now) }
     ensures { result.0 ≡ account_total (account_of morning.now noon.now) }
 {

@@ -35,7 +35,7 @@ fn said_of(verdict: Verdict) -> Result<Judged, Refusal>
 
 // What is said of a list of spreads for a question: `numbers` has one for each step, of each spread its first step and then its
 // second; `uses` what each step used of each prompt, one step after the other; `sent` is how many prompts the list speaks of.
-fn judge_lent<'a>(
+pub fn judge_lent<'a>(
     morning: &'a [u8],
     noon: &'a [u8],
     account: &[u16; NOTES],

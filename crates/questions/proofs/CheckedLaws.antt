@@ -3,7 +3,7 @@
 use Rattle.std.specs.Prelude.{Ok, Err}
 use Prim.Native.Nat.{ℕ, ◌≤◌, zero-le}
 use mathlib.Core.Path.{◌≡◌, refl, sym, ap, ◌∙◌, subst}
-use mathlib.Core.Bool.{Bool, cond}
+use mathlib.Core.Bool.{Bool, true, false, cond}
 use mathlib.Core.List.{List, []}
 use borrow.Author.Tests.{ne_eqb}
 use lib.IntN.{ℤ}
@@ -21,9 +21,14 @@ use Rattle.account.proofs.AcceptedOnly.{refused_some}
 use Rattle.account.proofs.Alone.{passes}
 use Rattle.account.proofs.Places.{alone}
 use Rattle.margin.specs.declared.asking.Question.{Question}
+use Rattle.margin.specs.declared.asking.Question.TheVariants.{Figures}
+use Rattle.margin.specs.declared.everything.Everything.{Everything}
+use Rattle.margin.specs.code.Lent.{EverythingOf}
 use Rattle.margin.specs.Places.{all_over, after_all_over}
 use Rattle.margin.specs.Questions.{not_refused, if_accepted, numbers_for, answer_over, after_over, afterwards, need_over, most_for}
 use Rattle.margin.proofs.QuestionLaws.{if_refused, if_accepted_lem, after_refused}
+use Rattle.questions.specs.code.Held.{AllAnswered}
+use Rattle.questions.specs.declared.held.Asked.{Asked}
 use Rattle.questions.specs.Questions.{answer_to, after_to, need_to, all_to, after_all_to}
 
 -- ---- a refused file
@@ -50,6 +55,23 @@ module _ (file : List ℕ) (r : Refusal) (by : CheckedBy file (Err r)) where
     stops (all_over paid (records file) (length lent)),
     sym (ap (λ (t : Bool). cond t (after_all_over paid (records file) lent) lent) (ne_eqb (number_of (checked file)) 0 refused)),
   )
+
+  -- everything that it is asked for
+  pub everything_refused :
+      (figures books uses : List ℤ) (a : Asked) → (a.figures ≡ Err r) × ((a.books ≡ Err r) × (a.uses ≡ Err r))
+      → AllAnswered file figures books uses a figures books uses
+  everything_refused figures books uses a is =
+      let f = answer_refused Figures figures in
+      let b = all_refused false books in
+      let u = all_refused true uses in
+      record {
+        figures_answer_lem = is.0 ∙ f.0;
+        figures-after = f.1;
+        books_answer_lem = is.1.0 ∙ b.0;
+        books_after_lem = b.1;
+        uses_answer_lem = is.1.1 ∙ u.0;
+        uses-after = u.1;
+      }
 
 -- ---- an accepted one
 module _ (file : List ℕ) (account : Account) (by : CheckedBy file (Ok account)) (none : List ℕ) (nothing : none ≡ []) where
@@ -87,3 +109,15 @@ module _ (file : List ℕ) (account : Account) (by : CheckedBy file (Ok account)
         e.0 ∙ sym (if_accepted_lem (checked file) (all_over paid (records file) (length lent)) ok),
         e.1 ∙ sym (ap (λ (x : Answer). cond (not_refused x) (after_all_over paid (records file) lent) lent) ok),
       )
+
+  -- everything that it is asked for
+  pub everything_accepted :
+      (figures books uses : List ℤ) (all : Everything) (figures' books' uses' : List ℤ) (a : Asked)
+      → EverythingOf (account_of file none) figures books uses all figures' books' uses'
+      → (a.figures ≡ all.figures) × ((a.books ≡ all.books) × (a.uses ≡ all.uses))
+      → AllAnswered file figures books uses a figures' books' uses'
+  everything_accepted figures books uses all figures' books' uses' a x is =
+      let f = answer_accepted Figures figures a.figures figures' (is.0 ∙ x.figures_answer_lem, x.lent.figures-after) in
+      let b = all_accepted false books a.books books' (is.1.0 ∙ x.books_answer_lem, x.lent.books_after_lem) in
+      let u = all_accepted true uses a.uses uses' (is.1.1 ∙ x.uses_answer_lem, x.lent.uses-after) in
+      record { figures_answer_lem = f.0; figures-after = f.1; books_answer_lem = b.0; books_after_lem = b.1; uses_answer_lem = u.0; uses-after = u.1 }

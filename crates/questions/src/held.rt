@@ -8,8 +8,9 @@ ghost use Rattle.questions.specs.Questions.{answer_to, after_to, need_to};
 use crate::checked::{answer_checked, needed_checked};
 use account::accounts::{Account, check_file, nothing_of};
 use account::answers::Refusal;
+use account::lent::{NOTES, lend_file};
 use margin::asking::Question;
-use margin::everything::everything_over;
+use margin::everything::{Everything, everything_lent, everything_over};
 
 // A view of a file's bytes with what the check says of them. Only `hold` makes one: its fields are of this module
 // alone.
@@ -37,6 +38,26 @@ pub struct Asked {
     pub uses: Result<(), Refusal>,
 }
 
+fn told(all: Everything) -> Asked
+    ensures { (result.figures ≡ all.figures) × ((result.books ≡ all.books) × (result.uses ≡ all.uses)) }
+{
+    Asked {
+        figures: all.figures,
+        books: all.books,
+        uses: all.uses,
+    }
+}
+
+fn refused(refusal: Refusal) -> Asked
+    ensures { (result.figures ≡ Err refusal) × ((result.books ≡ Err refusal) × (result.uses ≡ Err refusal)) }
+{
+    Asked {
+        figures: Err(refusal),
+        books: Err(refusal),
+        uses: Err(refusal),
+    }
+}
+
 // Everything that a checked file is asked for, its positions worked out once.
 fn everything(
     file: &[u8],
@@ -50,19 +71,15 @@ fn everything(
         books.new uses.new }
 {
     match checked {
-        Ok(account) => {
-            let all = everything_over(file, nothing_of(file), account, figures, books, uses);
-            Asked {
-                figures: all.figures,
-                books: all.books,
-                uses: all.uses,
-            }
-        }
-        Err(refusal) => Asked {
-            figures: Err(refusal),
-            books: Err(refusal),
-            uses: Err(refusal),
-        },
+        Ok(account) => told(everything_over(
+            file,
+            nothing_of(file),
+            account,
+            figures,
+            books,
+            uses,
+        )),
+        Err(refusal) => refused(refusal),
     }
 }
 
@@ -92,10 +109,21 @@ pub fn held_all<'a>(h: Held<'a>, figures: &mut [i64], books: &mut [i64], uses: &
     everything(h.file, h.checked, figures, books, uses)
 }
 
-// The figures, and the books and uses of all questions, over plain bytes, of a file that is checked and held once.
+// The figures, and the books and uses of all questions, over plain bytes, of a file that is checked once.
 pub fn ask_all(file: &[u8], figures: &mut [i64], books: &mut [i64], uses: &mut [i64]) -> Asked
     ensures { AllAnswered file.now figures.old books.old uses.old result figures.new
         books.new uses.new }
 {
-    held_all(hold(file), figures, books, uses)
+    let mut notes = [0u16; NOTES];
+    match lend_file(file, &mut notes) {
+        Ok(()) => told(everything_lent(
+            file,
+            nothing_of(file),
+            &notes,
+            figures,
+            books,
+            uses,
+        )),
+        Err(refusal) => refused(refusal),
+    }
 }

@@ -1,8 +1,11 @@
 -- An account as it is lent: what it notes in one array.
 -- Assumes nothing.
-use Rattle.std.specs.Prelude.{ℕ, ◌+◌, ◌<◌, ◌≡◌, Bool, not, List, map, eqb, length, get_or, take, drop}
+use Rattle.std.specs.Prelude.{ℕ, ◌+◌, ◌<◌, ◌≡◌, Bool, not, List, map, eqb, length, get_or, take, drop, OnOk}
+use Rattle.account.specs.Answers.{Answer}
 use Rattle.account.specs.Check.{most_contracts}
+use Rattle.account.specs.Checked.{checked}
 use Rattle.account.specs.PartNumbers.{parts}
+use Rattle.account.specs.code.Standing.{StoodIn}
 use Rattle.account.specs.declared.accounts.Account.{Account}
 
 -- where the counts, the numbers, the flags, and how many records and contracts there are begin
@@ -47,3 +50,8 @@ pub record Lendable (a : Account) : Type 0 where
   pub noon : length a.noon ≡ most_contracts
   pub records : a.records < 65536
   pub contracts : a.contracts < 65536
+
+-- what one file is refused for, or its account, which is lent
+pub record LentBy (file : List ℕ) (r : Answer) (notes : List ℕ) : Type 0 where
+  pub answer_is : r ≡ checked file
+  pub accepted : OnOk r (StoodIn file (account_in notes))

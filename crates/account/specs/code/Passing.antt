@@ -1,13 +1,11 @@
 -- Runs of sound records: a contract's own record, or the prompts, rows or interprompt spreads of a contract, or intercontract spreads, after one
 -- that has passed, as far as they pass like it.
 -- Assumes nothing.
-use Rattle.std.specs.Prelude.{ℕ, ◌+◌, ◌-◌, ◌≤◌, ◌<◌, ◌≡◌, Bool, true, false, not, ◌&&◌, ◌||◌, List, map, length, get_or, set, eqb, Result, Err, MatchResult}
+use Rattle.std.specs.Prelude.{ℕ, ◌+◌, ◌-◌, ◌≤◌, ◌<◌, ◌≡◌, Bool, true, false, not, ◌&&◌, ◌||◌, List, map, length, get_or, set, eqb, Result, MatchResult}
 use Rattle.exact.specs.Lists.{any, one_if}
 use Rattle.record.specs.Bytes.{count_from}
 use Rattle.record.specs.Layout.{Record, kind, contract, currency, day, two_legs, legs_of, leg_tier, leg_side, second_contract}
 use Rattle.record.specs.Ranges.{sound_record}
-use Rattle.account.specs.Answers.{refusal}
-use Rattle.account.specs.declared.answers.Refusal.{Refusal}
 use Rattle.account.specs.declared.check.Step.{Step}
 use Rattle.account.specs.Check.{most_records, most_prompts, kind_falls, number_not_above, contract_falls, day_not_above, tier_falls, same_leg, with_itself}
 use Rattle.account.specs.Conversions.{other_row}
@@ -135,7 +133,8 @@ pub record Advances (file first counts : List ℕ) (k next contracts : ℕ) (fir
   pub later : Passes file first' (one_more counts (part_at_record file k)) k next
   pub own : contracts ≡ one_if (of_kind 1 (record_at file k))
 
-abbrev pub StepBy : List ℕ → List ℕ → List ℕ → ℕ → Result Step Refusal → List ℕ → List ℕ → Type 0
+-- what the step comes to: the notes go on, or a fault by its number
+abbrev pub StepBy : List ℕ → List ℕ → List ℕ → ℕ → Result Step ℕ → List ℕ → List ℕ → Type 0
 StepBy file first counts k r first' counts' =
     MatchResult r (λ (s : Step). Advances file first counts k s.next s.contracts first' counts')
-    (λ (e : Refusal). Err e ≡ refusal (fault_at file first counts k) k)
+    (λ (number : ℕ). (number ≡ fault_at file first counts k) × (number ≡ 0 → ⊥))

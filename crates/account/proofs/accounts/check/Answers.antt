@@ -10,7 +10,7 @@ use Rattle.account.proofs.accounts.check.Goals as goal
 pub returns-in_err-noted : goal.returns-in_err-noted
 returns-in_err-noted c =
     let whole = c.anew-whole in
-    let p = err_from_is_err_and c.from_residual.result c.from_residual.ensures.1 in
+    let p = err_from_is_err_and c.from_residual-in_err-noted.result c.from_residual-in_err-noted.ensures.1 in
     rw (p.1, p.2) (refused_there whole.result.now _ c.in_err-noted.ensures (refused_some refl) ∙ ap checked whole.ensures)
 
 pub rates_answer-requires : goal.rates_answer-requires

@@ -12,7 +12,7 @@ use Rattle.account.proofs.accounts.check_file.Goals as goal
 pub returns-in_err-noted : goal.returns-in_err-noted
 returns-in_err-noted c =
     let whole = c.anew-whole in
-    let p = err_from_is_err_and c.from_residual.result c.from_residual.ensures.1 in
+    let p = err_from_is_err_and c.from_residual-in_err-noted.result c.from_residual-in_err-noted.ensures.1 in
     rw (p.1, p.2) (record { answer_is = refused_there whole.result.now _ c.in_err-noted.ensures (refused_some refl) ∙ ap checked whole.ensures; accepted = tt })
 
 pub rates_answer-requires : goal.rates_answer-requires
@@ -25,12 +25,12 @@ returns-in_err-rates_answer c =
 
 pub in_one_file-requires : goal.in_one_file-requires
 in_one_file-requires c =
-    let n = c.note_file.new in
+    let n = c.note_records.new in
     few_listed c.anew-whole.result.now c.in_ok-noted.noted.contracts n.first n.counts c.in_ok-noted.ensures
 
 pub returns : goal.returns
 returns c =
-    let n = c.note_file.new in
+    let n = c.note_records.new in
     subst (λ (bytes : List ℕ). CheckedBy bytes (Ok c.in_one_file.result)) c.anew-whole.ensures
     (checked_noted c.anew-whole.result.now c.in_ok-noted.noted.contracts n.first n.counts c.in_ok-noted.ensures
     c.record_count.result c.in_one_file.result c.record_count.ensures c.in_one_file.ensures

@@ -4,7 +4,6 @@ use mathlib.Core.Path.{◌≡◌, sym, ap, ◌∙◌}
 use mathlib.Core.List.{List}
 use borrow.Author.Tests.{eqb-true}
 use Rattle.record.specs.Layout.{Record, contract}
-use Rattle.account.specs.Answers.{refusal}
 use Rattle.account.specs.code.Notes.{fault_by, fault_at, part_at, prompts_noted, before_at}
 use Rattle.account.specs.Records.{records, record_at}
 use Rattle.account.specs.PartNumbers.{part}
@@ -24,15 +23,12 @@ joined file first counts k {r} {b} {ps} {d} hr hd hs hb =
 
 pub returns-then-faultless : goal.returns-then-faultless
 returns-then-faultless c =
-    ap (λ (n : ℕ). refusal n c.args.k)
-    (sym (eqb-true _ 0 (sym c.faultless.ensures ∙ c.if-faultless.true))
+    sym (eqb-true _ 0 (sym c.faultless.ensures ∙ c.if-faultless.true))
     ∙ joined c.args.file.now c.args.first.now c.args.counts.now c.args.k c.whole_at-r.ensures c.contract.ensures.0
-    c.part_at-prompts.ensures c.whole_before-before.ensures)
+    c.part_at-prompts.ensures c.whole_before-before.ensures
 
 pub returns : goal.returns
 returns c =
-    c.refusal_of.ensures
-    ∙ ap (λ (n : ℕ). refusal n c.args.k)
-    (c.fault.ensures
+    c.fault.ensures
     ∙ joined c.args.file.now c.args.first.now c.args.counts.now c.args.k c.whole_at-r.ensures c.contract.ensures.0
-    c.part_at-prompts.ensures c.whole_before-before.ensures)
+    c.part_at-prompts.ensures c.whole_before-before.ensures

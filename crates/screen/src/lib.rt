@@ -9,9 +9,10 @@ ghost use Rattle.screen.specs.code.Held.{placed_in, asked_in, total_in};
 use crate::inserting::insert;
 use account::accounts::{check, check_file, nothing_of};
 use account::answers::Refusal;
+use account::lent::{NOTES, lend_file};
 use exact::signed::magnitude;
 use formulas::amount::Amount;
-use margin::everything::total_over;
+use margin::everything::total_lent;
 use record::bytes::RECORD_BYTES;
 use tickets::counts::{check_ticket, counts_of, ticket_place};
 use tickets::kept::{keep, kept_total};
@@ -67,8 +68,9 @@ pub fn add(lent: &mut [u8], named: usize, ticket: &[u8]) -> Result<usize, Refusa
 fn total_in(file: &[u8]) -> Result<Amount, Refusal>
     ensures { result ≡ total_in file.now }
 {
-    let account = check_file(file)?;
-    Ok(total_over(file, nothing_of(file), account))
+    let mut notes = [0u16; NOTES];
+    lend_file(file, &mut notes)?;
+    Ok(total_lent(file, nothing_of(file), &notes))
 }
 
 // The total of the account that the first `named` of the lent bytes hold.

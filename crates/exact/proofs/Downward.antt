@@ -3,14 +3,15 @@
 use mathlib.Core.Path.{◌≡◌, refl, sym, ◌∙◌, ap, ap₂, subst}
 use mathlib.Core.Bool.{Bool, true, false, cond}
 use mathlib.Core.List.{List, [], ◌∷◌}
-use Prim.Native.Nat.{ℕ, suc, ◌+◌, ◌-◌, ◌<◌}
+use Prim.Native.Nat.{ℕ, zero, suc, ◌+◌, ◌-◌, ◌≤◌, ◌<◌}
+use native.Mathlib.Nat.{not-suc-le-zero}
 use native.Mathlib.Omega.{arith}
 use lib.IntN.{ℤ, pos}
 use lib.ListN.{length, get_or, drop, drop_of_length-le}
 use lib.Seq.{drop-cons}
 use lib.Signed.{lt_z}
 use Rattle.exact.specs.Signed.{larger}
-use Rattle.exact.specs.Largest.{largest, first_at}
+use Rattle.exact.specs.Largest.{largest, first_at, IsLargest}
 use Rattle.exact.proofs.Totals.{same_refl, first_earlier}
 
 number_earlier : (j : ℕ) (x y : ℤ) (ys : List ℤ) (n : ℕ) → n ≡ suc j + first_at (largest (y ∷ ys)) (y ∷ ys)
@@ -65,3 +66,7 @@ pub next : (ts : List ℤ) (i : ℕ) (v v' : ℤ) (n n' : ℕ) → 0 < i → See
     → Seen ts (i - 1) v' n'
 next ts i v v' n n' above s ev en =
     earlier ts (i - 1) v v' n n' (subst (λ (k : ℕ). Seen ts k v n) (omega arith) s) ev en
+
+pub finish : (ts : List ℤ) (i : ℕ) (v : ℤ) (n : ℕ) → i ≤ 0 → Seen ts i v n → IsLargest ts v n
+finish ts zero v n h s = record { value_is = s.value_is; number_is = omega (arith, s.number_is) }
+finish ts (suc i) v n h s = absurd (not-suc-le-zero h)

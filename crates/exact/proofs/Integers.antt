@@ -14,7 +14,7 @@ use lib.Signed.{non_neg, lt_z, le_z}
 use mir.Syntax.{w64}
 use mir.Val.{SFits, Fits, to_z, of_z}
 use mir.Facts.{to_z-of_z, Fits-nat_abs}
-use borrow.Author.Tests.{ltb-true, ltb-false, leb-true, le-leb, lt-leb}
+use borrow.Author.Tests.{ltb-true, ltb-false, leb-true, le-ltb, le-leb, lt-leb}
 use Rattle.exact.specs.Signed.{negative, larger, or_zero, with_sign_of, towards_zero}
 
 -- ---- range
@@ -34,6 +34,10 @@ seen₂ f a b ha hb e = e ∙ ap₂ f (back a ha) (back b hb)
 pub sfits_abs : (z : ℤ) → nat_abs z < 2 ^ 63 → SFits w64 z
 sfits_abs (pos n) h = record { sfits = h }
 sfits_abs (negsuc n) h = record { sfits = omega arith }
+
+pub abs_sfits : (z : ℤ) → SFits w64 z → nat_abs z ≤ 2 ^ 63
+abs_sfits (pos n) h = omega (arith, h.sfits)
+abs_sfits (negsuc n) h = omega (arith, h.sfits)
 
 -- a number that is not negative can be cast to a natural one
 pub natural : (z : ℤ) → SFits w64 z → negative z ≡ false → T (non_neg z) × Fits w64 (nat_abs z)
@@ -182,6 +186,18 @@ larger_second a b = go (lt_z a b) refl
 
 -- ---- sign
 
+pub negative_below : (z : ℤ) → lt_z z (pos 0) ≡ negative z
+negative_below (pos n) = le-ltb n 0 (omega arith)
+negative_below (negsuc n) = refl
+
+pub or_zero-negative : (z : ℤ) → negative z ≡ true → or_zero z ≡ 0
+or_zero-negative (pos n) h = absurd (false≢true h)
+or_zero-negative (negsuc n) h = refl
+
+pub or_zero_natural : (z : ℤ) → negative z ≡ false → or_zero z ≡ nat_abs z
+or_zero_natural (pos n) h = refl
+or_zero_natural (negsuc n) h = absurd (true≢false h)
+
 pub or_zero_abs : (z : ℤ) → or_zero z ≤ nat_abs z
 or_zero_abs (pos n) = le_refl n
 or_zero_abs (negsuc n) = omega arith
@@ -202,10 +218,25 @@ pub abs_towards_zero : (z : ℤ) (a : ℕ) → nat_abs (towards_zero z a) ≡ na
 abs_towards_zero (pos n) a = refl
 abs_towards_zero (negsuc n) a = abs_neg (pos (suc n - a))
 
+pub sign_negative : (z : ℤ) (m : ℕ) → negative z ≡ true → with_sign_of z m ≡ neg_ℤ (pos m)
+sign_negative (pos n) m h = absurd (false≢true h)
+sign_negative (negsuc n) m h = refl
+
+pub sign_natural : (z : ℤ) (m : ℕ) → negative z ≡ false → with_sign_of z m ≡ pos m
+sign_natural (pos n) m h = refl
+sign_natural (negsuc n) m h = absurd (true≢false h)
+
+pub sign_none : (z : ℤ) → with_sign_of z 0 ≡ pos 0
+sign_none (pos n) = refl
+sign_none (negsuc n) = refl
+
 -- taking nothing leaves all, taking all leaves nothing
 pub towards_zero-none : (z : ℤ) → towards_zero z 0 ≡ z
 towards_zero-none z =
     towards_zero_sign z 0 ∙ ap (with_sign_of z) (omega arith) ∙ sign_abs z
+
+pub towards_zero_all : (z : ℤ) (a : ℕ) → nat_abs z ≤ a → towards_zero z a ≡ pos 0
+towards_zero_all z a h = towards_zero_sign z a ∙ ap (with_sign_of z) (omega arith) ∙ sign_none z
 
 -- what was taken carries the sign too: it is as much as was asked, and at most all
 pub taken_sign : (z : ℤ) (a : ℕ) → z -ℤ towards_zero z a ≡ with_sign_of z (min a (nat_abs z))

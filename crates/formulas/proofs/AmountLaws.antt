@@ -3,16 +3,29 @@
 use mathlib.Core.Path.{◌≡◌, refl, sym, ap, ◌∙◌}
 use mathlib.Core.Bool.{Bool, true, false, cond}
 use Prim.Native.Nat.{ℕ, ◌+◌, ◌*◌, ◌/◌, ◌%◌, ◌≤◌, ◌<◌}
-use native.Mathlib.Nat.{mul-le-mul, mul-le-mul_left, mul_assoc, mul_right_comm, mul_left_comm, add-mul, zero-mul, div-add-mod', div-mul-le_self, mod-lt, le-mul_of_pos_right}
+use native.Mathlib.Nat.{mul-le-mul, mul-le-mul_left, mul_assoc, mul_right_comm, mul_left_comm, add-mul, zero-mul, div-add-mod', div-mul-le_self, mod-lt}
+use native.Mathlib.Nat.{le-mul_of_pos_right}
 use native.Mathlib.Omega.{arith}
 use lib.Dec.{eqb}
 use borrow.Author.Tests.{eqb-true}
 use Rattle.exact.specs.Rounding.{half_up, half_up_to}
 use Rattle.exact.proofs.HalfUp.{half_zero, half_whole, half_within, half_twice}
 use Rattle.exact.proofs.UnitLaws.{up_above, up_none}
-use Rattle.formulas.specs.Bounds.{most_delta, most_risk, most_credit}
+use Rattle.formulas.specs.Bounds.{most_delta, most_rate, most_charge, most_risk, most_credit}
+use Rattle.formulas.specs.Charges.{charged}
 use Rattle.formulas.specs.Credit.{to_unit, from_unit, unit_price_risk, credit_at, credit}
 use Rattle.record.specs.Layout.{most_unit}
+
+-- deltas times a rate
+pub delta_rate : (d rate : ℕ) → d ≤ most_delta → rate ≤ most_rate → d * rate ≤ 1280000000000000000
+delta_rate d rate hd hr = mul-le-mul hd hr
+
+pub spreads_rate : (first second rate : ℕ) → first ≤ most_delta → second ≤ most_delta → rate ≤ most_rate → (first + second) * rate ≤ 2560000000000000000
+spreads_rate first second rate h k hr = let s : first + second ≤ 256000000000 = omega arith in mul-le-mul s hr
+
+-- a charge of less than its bound
+pub charged_within : (unit n : ℕ) → unit ≤ most_unit → n ≤ 2560000000000000000 → charged unit n ≤ most_charge
+charged_within unit n hu h = omega (arith, up_above unit 10000 n)
 
 -- the unit price risk, from a quotient and a remainder
 pub record UnitParts (twice net whole part : ℕ) : Type 0 where

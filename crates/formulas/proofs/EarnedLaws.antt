@@ -9,6 +9,7 @@ use mathlib.Core.Bool.{Bool, true, false, cond}
 use mathlib.Core.List.{List, []}
 use mir.Syntax.{w64}
 use mir.Val.{Fits}
+use borrow.Author.Tests.{eq-eqb}
 use lib.Dec.{eqb}
 use lib.IntN.{nat_abs}
 use lib.ListN.{length, get_or, set, replicate, length-set}
@@ -26,7 +27,7 @@ use Rattle.formulas.specs.code.Lines.{no_line}
 use Rattle.formulas.specs.code.Sums.{interleaved, spreads_at, EntriesRoom}
 use Rattle.formulas.specs.code.Table.{earns, EarnerOf, earner_at, LinesRise, Listed, EarnersOf, earns_from, WithEntry, WalkRoom, EarnedBy, ByLine, CreditsRoom, CreditsOf}
 use Rattle.formulas.specs.code.Within.{EntryFit, EntriesFit}
-use Rattle.formulas.proofs.SumLaws.{ToGo, next, finish, credit_from, credit_step, credit-none, use_none, nothing_used}
+use Rattle.formulas.proofs.SumLaws.{ToGo, start, next, finish, credit_from, credit_step, credit-none, use_none, nothing_used}
 
 -- the first i lines stand at their numbers
 pub record Put (lines : List Line) (i : ℕ) (units prices nets : List ℕ) : Type 0 where
@@ -104,6 +105,10 @@ earners_start units prices nets lines eu ep en =
             listed = λ c x. absurd (x (ap (λ (xs : List ℕ). get_or xs c 0) en ∙ get_d_same most_contracts 0 c));
           };
     }
+
+-- a contract without a net delta earns nothing
+pub no_net : (by : Earner) (e : Record) (f s : ℕ) → by.net ≡ 0 → 0 ≡ earns_from by e f s
+no_net by e f s h = rw (eq-eqb by.net 0 h)
 
 -- an entry that formed nothing adds nothing
 none_used : (c : ℕ) (e : Record) → entry_use c e 0 0 ≡ 0
@@ -194,6 +199,14 @@ module _ (units prices nets : List ℕ) (rs : List Record) (firsts seconds : Lis
     pub within : i ≤ n
     pub places : length earned ≡ most_contracts
     pub each : (c : ℕ) → c < most_contracts → ToGo n most_credit (rest c) i (get_or earned c 0)
+
+  pub walk_start : (n : ℕ) → Walked n 0 (replicate most_contracts 0)
+  walk_start n =
+      record {
+        within = zero-le;
+        places = refl;
+        each = λ c h. subst⁻¹ (ToGo n most_credit (rest c) 0) (get_d_same most_contracts 0 c) (start n most_credit (rest c));
+      }
 
   pub walk_next : (n i : ℕ) (before after : List ℕ) → n ≡ length rs → length rs ≤ length firsts → length rs ≤ length seconds → i < n → Walked n i before
       → WithEntry (earner_at units prices nets) (get_or rs i []) (spreads_at firsts i) (spreads_at seconds i) before after → Walked n (i + 1) after

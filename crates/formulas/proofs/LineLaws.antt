@@ -1,6 +1,7 @@
 -- A contract's line, from what its rows come to, its book, and its charges.
 -- Assumes nothing.
 use Prim.Native.Nat.{ℕ, zero, suc, ◌+◌, ◌*◌, ◌≤◌, ◌<◌, zero-le, suc-le-suc}
+use native.Mathlib.Numerals.{add-one}
 use native.Mathlib.Omega.{arith}
 use mathlib.Core.Path.{◌≡◌, refl, sym, ap, ap₂, ◌∙◌, subst, subst⁻¹}
 use mathlib.Core.Bool.{true, ◌&&◌}
@@ -10,7 +11,7 @@ use lib.Dec.{leb, ltb}
 use lib.IntN.{ℤ, pos, nat_abs, ◌+ℤ◌, +ℤ_idl}
 use lib.ListN.{length, get_or, take, length-map}
 use Rattle.exact.specs.Lists.{sum, sum_ℤ}
-use Rattle.exact.proofs.Lists.{abs_sum, map-take, sum-take, sum_at, get_d_map}
+use Rattle.exact.proofs.Lists.{abs_sum, map-take, sum-take, sum_at, get_d_map, sum_ℤ-take-suc}
 use Rattle.record.specs.Layout.{Record, tier}
 use Rattle.spread.specs.Accepted.{every, whole, sound_prompt, sound_spread, tier_count, prompt_places, spread_places}
 use Rattle.spread.specs.code.Book.{by_place, spreads_entry, delta_entry}
@@ -119,3 +120,7 @@ net_so_far zs i most h m =
     subst (λ (n : ℕ). n ≤ sum (map nat_abs zs)) (get_d_map nat_abs zs i (pos 0) 0 h) (sum_at (map nat_abs zs) i (rw length-map h))
     in
     omega arith
+
+pub net_next : (zs : List ℤ) (i : ℕ) (z r : ℤ) → i < length zs → z ≡ sum_ℤ (take i zs) → r ≡ z +ℤ get_or zs i (pos 0) → r ≡ sum_ℤ (take (i + 1) zs)
+net_next zs i z r h e f =
+    f ∙ ap (λ (x : ℤ). x +ℤ get_or zs i (pos 0)) e ∙ sym (sum_ℤ-take-suc zs i h) ∙ ap (λ (n : ℕ). sum_ℤ (take n zs)) (sym (add-one i))

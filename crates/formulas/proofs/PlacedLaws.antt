@@ -3,18 +3,49 @@
 use mathlib.Core.Path.{◌≡◌, refl, sym, ◌∙◌, ap}
 use mathlib.Core.Bool.{Bool, true, false, cond}
 use mathlib.Core.List.{List, [], ◌∷◌}
-use Prim.Native.Nat.{ℕ, zero, suc, ◌≤◌, ◌<◌}
+use Prim.Native.Nat.{ℕ, zero, suc, ◌+◌, ◌≤◌, ◌<◌}
 use native.Mathlib.Omega.{arith}
-use lib.Dec.{eqb}
+use lib.Dec.{eqb, ltb}
 use lib.IntN.{ℤ, pos, ◌+ℤ◌, +ℤ_idr}
 use lib.ListN.{length, get_or, set, length-set}
 use lib.Seq.{get_or-set_same, get_or-set_other}
-use borrow.Author.Tests.{eq-eqb, ne_eqb, eqb-true, eqb-false}
+use borrow.Author.Tests.{eq-eqb, ne_eqb, eqb-true, eqb-false, ltb-true, ltb-false}
 use Rattle.exact.specs.Lists.{count, one_if}
 use Rattle.account.specs.Parts.{on_day}
 use Rattle.record.specs.Layout.{Record, day}
 use Rattle.formulas.specs.declared.rows.Days.{Days}
-use Rattle.formulas.specs.code.Position.{Added, DaysOf, OnePlace, RowsPlaced, OneDay, adds_on}
+use Rattle.formulas.specs.code.Position.{Added, DaysOf, FirstPlace, OnePlace, Guessed, RowsPlaced, OneDay, adds_on}
+
+-- one day more that is another
+pub passed_one : (days : List ℕ) (j d : ℕ) → ((k : ℕ) → k < j → get_or days k 0 ≡ d → ⊥) → (get_or days j 0 ≡ d → ⊥) → (k : ℕ)
+    → k < j + 1 → get_or days k 0 ≡ d → ⊥
+passed_one days j d earlier here k h = go (ltb k j) refl
+  where
+    go : (t : Bool) → ltb k j ≡ t → get_or days k 0 ≡ d → ⊥
+    go true e = λ same. earlier k (ltb-true k j e) same
+    go false e =
+        λ same.
+        let at : k ≡ j = let far = ltb-false k j e in omega arith in
+        here (ap (λ (i : ℕ). get_or days i 0) (sym at) ∙ same)
+
+-- a day that has a place is found there
+pub found_first : (days : List ℕ) (n d r : ℕ) → OnePlace n days d → FirstPlace days n d r → (r < n) × (get_or days r 0 ≡ d)
+found_first days n d r one f = go (ltb r n) refl
+  where
+    go : (t : Bool) → ltb r n ≡ t → (r < n) × (get_or days r 0 ≡ d)
+    go true e = (ltb-true r n e, f.here (ltb-true r n e))
+    go false e = absurd (f.others one.place (let far = ltb-false r n e in let near = one.within in omega arith) one.here)
+
+-- one guess more
+pub guessed_more : (n j : ℕ) → j < n → (guess : List ℕ) (i : ℕ) → Guessed n guess → Guessed n (set guess i j)
+guessed_more n j h guess i g some = go guess i (g some)
+  where
+    go : (xs : List ℕ) (i : ℕ) → ((k : ℕ) → get_or xs k 0 < n) → (k : ℕ) → get_or (set xs i j) k 0 < n
+    go [] i e k = e k
+    go (x ∷ xs) zero e zero = h
+    go (x ∷ xs) zero e (suc k) = e (suc k)
+    go (x ∷ xs) (suc i) e zero = e 0
+    go (x ∷ xs) (suc i) e (suc k) = go xs i (λ m. e (suc m)) k
 
 -- what a row adds at the one place of its day
 module _ (n : ℕ) (days : List ℕ) (d : ℕ) (one : OnePlace n days d) (more : ℤ) (xs : List ℤ) where

@@ -3,7 +3,7 @@
 use mathlib.Core.Path.{◌≡◌, refl, sym, ◌∙◌, ap, ap₂}
 use mathlib.Core.Bool.{false}
 use mathlib.Core.List.{List, [], ◌∷◌}
-use Prim.Native.Nat.{ℕ, zero, suc, ◌+◌, ◌-◌, ◌*◌, ◌≤◌, ◌<◌}
+use Prim.Native.Nat.{ℕ, zero, suc, ◌+◌, ◌-◌, ◌*◌, ◌^◌, ◌%◌, ◌≤◌, ◌<◌}
 use native.Mathlib.Nat.{not-suc-le-zero, mul-le-mul}
 use native.Mathlib.Omega.{arith}
 use lib.IntN.{ℤ, pos, negsuc, neg_ℤ, nat_abs, ◌+ℤ◌, ◌-ℤ◌, ◌*ℤ◌, +ℤ_idr, +ℤ_assoc, +ℤ_comm, +ℤ-neg_ℤ_cancel, neg_ℤ-+ℤ, *ℤ-zero}
@@ -15,6 +15,7 @@ use Rattle.record.specs.Layout.{Record, loss, hundred_thousand, scenario_count}
 use Rattle.formulas.specs.Bounds.{most_product}
 use Rattle.formulas.specs.code.Position.{RowFit, AtMost, Added}
 use Rattle.formulas.specs.code.Raised.{SumsRoom, signed_loss, raised_loss, raised_products, most_raised, unraised_at, settled_from, settled}
+use Rattle.formulas.specs.code.Raised.{loss_bits, turn_of, raise_of, turned_bits, raised_by}
 use Rattle.formulas.proofs.AddedLaws.{at_most_wider, at_most_added}
 use Rattle.account.specs.Products.{most_per_tick}
 
@@ -61,6 +62,20 @@ module _ (each : ℤ) (row : Record) (k : ℕ) (h : k < scenario_count) (w : Row
       ∙ ap (λ (z : ℤ). z +ℤ pos (nat_abs each * hundred_thousand)) (signed_product each (loss row (k + 1)))
 
 -- ---- by the 32 bits of a loss
+
+pub bits_are : (l : ℤ) → nat_abs l ≤ hundred_thousand → nat_abs (l +ℤ pos (2 ^ 32)) % 2 ^ 32 ≡ loss_bits l
+bits_are (pos n) h = omega arith
+bits_are (negsuc n) h = omega (arith, ap nat_abs (less_is (suc n) (2 ^ 32) (omega arith)))
+
+pub raised_bits : (each l : ℤ) → nat_abs l ≤ hundred_thousand → (turned_bits (loss_bits l) (turn_of each) + raise_of each) % 2 ^ 32 ≡ raised_by each l
+raised_bits (pos e) (pos n) h = omega arith
+raised_bits (pos e) (negsuc n) h = omega (arith, ap nat_abs (less_is (suc n) hundred_thousand h))
+raised_bits (negsuc e) (pos n) h = omega (arith, ap nat_abs (less_is n hundred_thousand h))
+raised_bits (negsuc e) (negsuc n) h = omega arith
+
+pub raise_most : (each : ℤ) → raise_of each ≤ hundred_thousand + 1
+raise_most (pos n) = omega arith
+raise_most (negsuc n) = omega arith
 
 -- ---- one row more
 

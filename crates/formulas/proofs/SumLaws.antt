@@ -1,23 +1,24 @@
 -- Charges and credits, added up place by place: what is done and what is still to do are the whole.
 -- Assumes nothing.
 use Prim.Native.Nat.{ℕ, ◌+◌, ◌*◌, ◌≤◌, ◌<◌, zero-le}
-use native.Mathlib.Nat.{zero-add, zero-mul, mul-zero, add-mul}
+use native.Mathlib.Nat.{zero-add, zero-mul, mul-zero, add-mul, mul-le-mul}
 use native.Mathlib.Numerals.{add-one}
 use native.Mathlib.Omega.{arith}
-use mathlib.Core.Path.{◌≡◌, refl, sym, ap, ◌∙◌}
+use mathlib.Core.Path.{◌≡◌, refl, sym, ap, ap₂, ◌∙◌}
 use mathlib.Core.Bool.{Bool, true, false, cond}
 use mathlib.Core.List.{List, []}
 use lib.IntN.{ℤ, pos}
 use lib.ListN.{length, get_or, drop, drop_of_length-le}
 use lib.Seq.{drop-cons}
-use lib.Dec.{eqb}
-use borrow.Author.Tests.{ne_eqb}
-use Rattle.exact.specs.Rounding.{half_up_to}
+use Rattle.exact.specs.Rounding.{half_up, half_up_to}
 use Rattle.exact.proofs.UnitLaws.{up_none}
-use Rattle.record.specs.Layout.{Record, contract, second_contract, rate_per_spread, spread_rate_of, outright_rate_of, percent}
+use lib.Dec.{eqb}
+use Rattle.record.specs.Layout.{Record, contract, second_contract, first_ratio, second_ratio, tenths, rate_per_spread, spread_rate_of, outright_rate_of, percent}
+use borrow.Author.Tests.{eq-eqb, ne_eqb}
 use Rattle.spread.specs.declared.Spreads.{Spreads}
+use Rattle.formulas.specs.Bounds.{most_formed}
 use Rattle.formulas.specs.Charges.{spread_charge, interprompt_charge, prompt_charge, prompt_charges}
-use Rattle.formulas.specs.Credit.{from_unit, unit_price_risk, credit_at, credit, entry_use, credits_by}
+use Rattle.formulas.specs.Credit.{from_unit, unit_price_risk, credit_at, credit, both_take, entry_use, credits_by}
 use Rattle.formulas.specs.code.Sums.{interleaved, spreads_at}
 
 -- a sum over n places: `rest i` is what the places from i on come to, each at most `most`
@@ -106,6 +107,24 @@ nothing_used unit twice used percent net e = go (eqb net 0)
 
 -- what an entry uses, by the contract that it is asked for
 module _ (c : ℕ) (e : Record) (f s k : ℕ) (ek : k ≡ contract e) where
+  pub use_first : (t : Bool) (r : ℕ) → c ≡ k → t ≡ tenths e → r ≡ first_ratio e → both_take t r f s ≡ entry_use c e f s
+  use_first t r h et er = rw (eq-eqb c (contract e) (h ∙ ek)) (ap₂ (λ (b : Bool) (x : ℕ). both_take b x f s) et er)
+
+  pub use_second : (l : ℕ) (t : Bool) (r : ℕ) → l ≡ second_contract e → (c ≡ k → ⊥) → c ≡ l → t ≡ tenths e → r ≡ second_ratio e
+      → both_take t r f s ≡ entry_use c e f s
+  use_second l t r el h g et er =
+      rw (ne_eqb c (contract e) (λ x. h (x ∙ sym ek)), eq-eqb c (second_contract e) (g ∙ el)) (ap₂ (λ (b : Bool) (x : ℕ). both_take b x f s) et er)
+
   pub use_none : (l : ℕ) → l ≡ second_contract e → (c ≡ k → ⊥) → (c ≡ l → ⊥) → ◌≡◌ {A = ℕ} 0 (entry_use c e f s)
   use_none l el h g =
       rw (ne_eqb c (contract e) (λ x. h (x ∙ sym ek)), ne_eqb c (second_contract e) (λ x. g (x ∙ sym el)))
+
+-- what a step takes of a contract fits
+pub step_product : (number ratio : ℕ) → number ≤ most_formed → ratio < 65536 → number * ratio ≤ 65536 * most_formed
+step_product number ratio h g =
+    let k : ratio ≤ 65536 = omega arith in
+    let p : number * ratio ≤ most_formed * 65536 = mul-le-mul h k in
+    omega arith
+
+pub rounded_small : (n r most : ℕ) → n ≤ most → r ≡ half_up n 10 → r ≤ most
+rounded_small n r most h e = omega arith

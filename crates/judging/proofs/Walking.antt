@@ -221,8 +221,15 @@ module _ (p : Prompts) (t : Table) (sent : ℕ) (xs us : List ℤ) where
     counts_differ e = sym (by_counts_lem ∙ ap (λ (b : Bool). cond b (judged_from 0 (steps_of t) (open_of p) (told_of sent xs us)) OtherCounts) e)
 
     module _ (e : tested ≡ true) where
+      pub steps_are : length xs ≡ 2 * t.count
+      steps_are = eqb-true (length xs) (2 * t.count)
+          (and_left (eqb (length xs) (2 * t.count)) (eqb sent p.count && eqb (length us) (2 * t.count * p.count)) e)
+
       others : eqb sent p.count && eqb (length us) (2 * t.count * p.count) ≡ true
       others = and_right (eqb (length xs) (2 * t.count)) (eqb sent p.count && eqb (length us) (2 * t.count * p.count)) e
+
+      pub uses_are : length us ≡ 2 * t.count * p.count
+      uses_are = eqb-true (length us) (2 * t.count * p.count) (and_right (eqb sent p.count) (eqb (length us) (2 * t.count * p.count)) others)
 
       pub counts_same : judged_from 0 (steps_of t) (open_of p) (told_of p.count xs us) ≡ judged p t sent xs us
       counts_same =

@@ -2,7 +2,8 @@
 -- Assumes nothing.
 use mathlib.Core.Path.{◌≡◌, sym, ◌∙◌}
 use mathlib.Core.Bool.{Bool, ◌||◌}
-use mathlib.Core.List.{map}
+use mathlib.Core.List.{[], map}
+use borrow.Author.Tests.{ne_eqb}
 use Rattle.exact.proofs.Lists.{any_append}
 use Rattle.record.specs.Bytes.{Record, count_from}
 use Rattle.record.specs.Layout.{kind, fields_of, contract_fields, prompt_fields, row_head, loss_field, row_fields, spread_fields, entry_fields, rate_fields}
@@ -28,6 +29,11 @@ module _ (r : Record) where
 
   pub of_rate : kind r ≡ 6 → fields_of r ≡ rate_fields
   of_rate e = rw e
+
+  pub of_none :
+      (kind r ≡ 1 → ⊥) → (kind r ≡ 2 → ⊥) → (kind r ≡ 3 → ⊥) → (kind r ≡ 4 → ⊥) → (kind r ≡ 5 → ⊥) → (kind r ≡ 6 → ⊥) → fields_of r ≡ []
+  of_none a b c d e f =
+      rw (ne_eqb (kind r) 1 a, ne_eqb (kind r) 2 b, ne_eqb (kind r) 3 c, ne_eqb (kind r) 4 d, ne_eqb (kind r) 5 e, ne_eqb (kind r) 6 f)
 
 -- a row's fields are those before its losses, and its losses
 pub row_fields-outside :

@@ -2,7 +2,7 @@
 -- Assumes nothing.
 use Prim.Native.Nat.{ℕ, zero, suc, ◌+◌, ◌-◌, ◌≤◌, ◌<◌}
 use mathlib.Core.Path.{◌≡◌, refl, sym, ap, ◌∙◌}
-use mathlib.Core.Bool.{Bool, false, ◌||◌, or-false, or_assoc}
+use mathlib.Core.Bool.{Bool, true, false, ◌||◌, or-true, or-false, or_assoc}
 use mathlib.Core.List.{List, ◌∷◌, ◌++◌}
 use native.Mathlib.Omega.{arith}
 use Rattle.exact.specs.Lists.{any}
@@ -11,6 +11,14 @@ use Rattle.record.specs.Bytes.{count_from}
 
 pub both : {a b c d : Bool} → a ≡ b → c ≡ d → a || c ≡ b || d
 both p q = rw (p, q)
+
+-- a test beside the third of several, taken out behind them all
+pub or_inside : (a b c d e : Bool) → a || (b || ((c || d) || e)) ≡ (a || (b || (c || e))) || d
+or_inside true b c d e = refl
+or_inside false true c d e = refl
+or_inside false false true d e = refl
+or_inside false false false true e = sym (or-true e)
+or_inside false false false false e = sym (or-false e)
 
 pub last : {a b : Bool} → a ≡ b → a ≡ b || false
 last {a} {b} p = p ∙ sym (or-false b)

@@ -1,7 +1,7 @@
 -- No pool of accepted prompts, and no number that a step forms of it, outgrows 64 bits.
 -- Assumes nothing.
-use Prim.Native.Nat.{ℕ, zero, suc, ◌-◌, ◌*◌, ◌≤◌}
-use native.Mathlib.Nat.{div-le_self}
+use Prim.Native.Nat.{ℕ, zero, suc, ◌-◌, ◌*◌, ◌≤◌, ◌<◌, ◌^◌}
+use native.Mathlib.Nat.{div-le_self, mul-le-mul}
 use native.Mathlib.Omega.{arith}
 use mathlib.Core.Bool.{Bool, true, false, cond}
 use mathlib.Core.List.{List, [], ◌∷◌, map}
@@ -85,3 +85,9 @@ formed_most s p h = go s.legs
         let a = least_first (room_at s 0 p.one) (take n (room_at s 1 p.two ∷ room_at s 2 p.three ∷ [])) in
         let b = room_most s.tenths p.one (leg_at s 0).ratio h.0 in
         omega arith
+
+pub product_fits : (number ratio : ℕ) → number ≤ most_number → ratio < 65536 → number * ratio < 2 ^ 64
+product_fits number ratio h g = let p : number * ratio ≤ most_number * 65535 = mul-le-mul h (below ratio g) in omega arith
+  where
+    below : (r : ℕ) → r < 65536 → r ≤ 65535
+    below r h = omega arith

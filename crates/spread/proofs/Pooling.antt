@@ -14,6 +14,7 @@ use Rattle.exact.specs.Lists.{least}
 use Rattle.spread.specs.code.Cells.{parity, cell_of, short_if, cell_at, Pooled, formed_in, less_in, after_in, numbers_over, left_in, pool_count}
 use Rattle.spread.specs.Steps.{market_in, Market, long, short, Open, Taker, pool, room, leg_takes, take_from, formed, after, numbers, left}
 use Rattle.spread.specs.Demand.{same_market, draws}
+use Rattle.spread.specs.declared.Leg.{Leg}
 use Rattle.spread.proofs.Spending.{draws_market, draws-tier, take-spend, pool-spend}
 use Rattle.spread.specs.Accepted.{tier_count}
 
@@ -75,6 +76,14 @@ side_short false false = refl
 pub side_market : (s : ℕ) (second : Bool) → short_if (beq (eqb s 1) second) ≡ market_in second s
 side_market s true = side_short (eqb s 1) true
 side_market s false = side_short (eqb s 1) false
+
+-- the cell of a leg within the tiers
+pub cell_in_step : (l : Leg) (second b : Bool) → l.tier < tier_count → beq (eqb l.side 1) second ≡ b
+    → cell_of (market_in second l.side) l.tier ≡ 2 * l.tier + parity (short_if b)
+cell_in_step l second b h e =
+    ap (λ (m : Market). cell_of m l.tier) (sym (side_market l.side second))
+    ∙ in_range (short_if (beq (eqb l.side 1) second)) l.tier h
+    ∙ ap (λ (a : Bool). 2 * l.tier + parity (short_if a)) e
 
 -- one cell changed
 pub cell_set : (cells : List ℕ) (n : Market) (u v : ℕ) (m : Market) (t : ℕ) → length cells ≡ pool_count → u < tier_count

@@ -128,6 +128,9 @@ leg_count_lem s e = one_of s.legs 2 3 (and_left (eqb s.legs 2 || eqb s.legs 3) (
 pub has_three : (s : Spread) → sound_spread s ≡ true → (s.legs ≡ 2 → ⊥) → s.legs ≡ 3
 has_three s e h = ⊎_elim (λ two. absurd (h two)) (λ three. three) (leg_count_lem s e)
 
+pub has_two : (s : Spread) → sound_spread s ≡ true → (s.legs ≡ 3 → ⊥) → s.legs ≡ 2
+has_two s e h = ⊎_elim (λ two. two) (λ three. absurd (h three)) (leg_count_lem s e)
+
 module _ (s : Spread) (d : Leg) (l : length s.leg ≡ 3) (e : sound_spread s ≡ true) where
   pub first_leg_lem : sound_leg (get_or s.leg 0 d) ≡ true
   first_leg_lem =

@@ -1,6 +1,6 @@
 -- What an entry goes by, and the keys of all.
 -- Assumes nothing.
-use Prim.Native.Nat.{ℕ, ◌+◌, ◌*◌, ◌≤◌, ◌<◌}
+use Prim.Native.Nat.{ℕ, zero, suc, ◌+◌, ◌*◌, ◌≤◌, ◌<◌}
 use mathlib.Core.Path.{◌≡◌, refl, ap, ap₂, ◌∙◌}
 use mathlib.Core.Bool.{Bool, true, false, cond}
 use mathlib.Core.List.{List, [], ◌∷◌, ◌++◌}
@@ -52,6 +52,17 @@ module _ (f g : ℕ → ℕ) where
   sorted_same (x ∷ xs) h =
       put_same x (sorted f xs) h.0 (all_sorted (λ (y : ℕ). f y ≡ g y) f xs h.1)
       ∙ ap (put_in g x) (sorted_same xs h.1)
+
+-- fewer than two are their own sort
+pub short-sorted : (keys xs : List ℕ) → length xs < 2 → xs ≡ sorted (key_at keys) xs
+short-sorted keys [] h = refl
+short-sorted keys (x ∷ []) h = refl
+short-sorted keys (x ∷ y ∷ ys) h = absurd (omega arith)
+
+take_count : (n m k : ℕ) → m ≤ k → take m (count_from n k) ≡ count_from n m
+take_count n zero k h = refl
+take_count n (suc m) zero h = absurd (omega arith)
+take_count n (suc m) (suc k) h = ap (λ (xs : List ℕ). n ∷ xs) (take_count (n + 1) m k (omega arith))
 
 pub ordered_by :
     (entries first : List ℕ) {keys sortedFirst : List ℕ} {n : ℕ} → record_count entries ≤ most_records → Keyed entries keys → n ≡ record_count entries

@@ -5,11 +5,23 @@ ghost use Rattle.screen.specs.code.Inserting.{moved_up, inserted};
 
 use record::bytes::RECORD_BYTES;
 
+// The bytes from `at` to before `end` moved up by a record, the last first; one by one, so that no memmove is called.
+fn move_up(lent: &mut [u8], at: usize, end: usize)
+    requires { (at ≤ end) × (end + record_bytes ≤ length lent.old) }
+    ensures { lent.new ≡ moved_up at end lent.old }
+{
+    for i in (at..end).rev() {
+        lent[i + RECORD_BYTES] = lent[i];
+    }
+}
+
 // A record put at `at` among the first `end` bytes; the bytes after the room that it takes stay.
 pub(crate) fn insert(lent: &mut [u8], at: usize, end: usize, row: &[u8])
     requires { (length row.now ≡ record_bytes) × ((at ≤ end) × (end + record_bytes ≤ length lent.old)) }
     ensures { lent.new ≡ inserted at end row.now lent.old }
 {
-    lent.copy_within(at..end, at + RECORD_BYTES);
-    lent[at..at + RECORD_BYTES].copy_from_slice(row);
+    // of a length that the compiler knows, so that no memmove is called here either
+    let whole = &row[..RECORD_BYTES];
+    move_up(lent, at, end);
+    lent[at..at + RECORD_BYTES].copy_from_slice(whole);
 }

@@ -15,7 +15,7 @@ use formulas::amount::Amount;
 use margin::everything::total_lent;
 use record::bytes::RECORD_BYTES;
 use tickets::counts::{check_ticket, counts_of, ticket_place};
-use tickets::kept::{keep, kept_total};
+use tickets::kept::{keep, kept_total, put};
 
 mod inserting; // inserting.rt: a record put among the bytes of a file, in place
 
@@ -89,8 +89,9 @@ fn ask_order(file: &[u8], ticket: &[u8]) -> Result<Amount, Refusal>
     ensures { result ≡ asked_in file.now ticket.now }
 {
     let account = check_file(file)?;
-    let more = tickets::kept::add(file, keep(file, account), ticket)?;
-    Ok(kept_total(file, more))
+    let mut kept = keep(file, account);
+    put(file, &mut kept, ticket)?;
+    Ok(kept_total(file, kept))
 }
 
 // A yes or a no, with the total.

@@ -1,8 +1,8 @@
 -- Tickets in turn, and what is told of a file with its tickets.
 -- Assumes nothing.
-use Rattle.std.specs.Prelude.{Ok, Err}
+use Rattle.std.specs.Prelude.{Result, Ok, Err}
 use Prim.Native.Nat.{ℕ, ◌+◌, ◌-◌, ◌*◌, ◌/◌, ◌≤◌, ◌<◌}
-use mathlib.Core.Path.{◌≡◌, refl, sym, ap, ap₂, ◌∙◌, subst⁻¹}
+use mathlib.Core.Path.{◌≡◌, refl, sym, ap, ap₂, ◌∙◌, subst, subst⁻¹}
 use mathlib.Core.Bool.{Bool, true, false, cond}
 use mathlib.Core.List.{List}
 use native.Mathlib.Omega.{arith}
@@ -23,9 +23,11 @@ use Rattle.account.proofs.AcceptedOnly.{accepted_only}
 use Rattle.account.proofs.Walk.{cut_on, length_cut}
 use Rattle.margin.specs.Questions.{not_refused}
 use Rattle.tickets.specs.Asked.{tickets_in, of, one_by_one, standing, margin_total, refused_by, answered_by, asked_about, withdrawn_from}
+use Rattle.tickets.specs.code.Held.{HoldsAll, OneRefused, HeldWith}
 use Rattle.tickets.specs.code.Kept.{KeptBy, withdrawal}
 use Rattle.tickets.specs.Ticket.{with_ticket, with_tickets, ticket_checked}
 use Rattle.tickets.specs.declared.ask.Asked.{Asked}
+use Rattle.tickets.specs.declared.ask.Holding.{Holding}
 use Rattle.tickets.specs.declared.ask.Ticketed.{Ticketed}
 use Rattle.tickets.specs.declared.kept.Kept.{Kept}
 use Rattle.tickets.proofs.CountLaws.{small}
@@ -188,3 +190,11 @@ module _ (file bytes : List ℕ) (k : Kept) (kb : KeptBy file (tickets_in bytes)
   nothing_left b e nz =
       let z = none_left k.counts.tickets (λ y. nz (ap number_of e ∙ y)) in
       (sym kb.counts.many ∙ z, e ∙ ap withdrawal z)
+
+-- ---- what is known of the file with its tickets where it is looked at, and not taken
+module _ (file : List ℕ) (tickets : List Record) (r : Result Holding Ticketed) (h : HeldWith file tickets r) where
+  pub holds_all : (x : Holding) → r ≡ Ok x → HoldsAll file tickets x
+  holds_all x e = subst (HeldWith file tickets) e h
+
+  pub one_refused : (t : Ticketed) → r ≡ Err t → OneRefused file tickets t
+  one_refused t e = subst (HeldWith file tickets) e h

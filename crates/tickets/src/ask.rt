@@ -4,7 +4,7 @@ ghost use Rattle.tickets.specs.Asked.{tickets_in, of, refused_by, asked_about, w
 ghost use Rattle.tickets.specs.code.Held.{HeldWith};
 ghost use Rattle.tickets.specs.code.Kept.{KeptBy};
 
-use crate::kept::{Kept, add, keep, kept_total, withdraw};
+use crate::kept::{Kept, keep, kept_total, put, take_back};
 use account::accounts::check_file;
 use account::answers::Refusal;
 use account::stretches::record_at;
@@ -69,14 +69,11 @@ fn put_in(file: &[u8], kept: Kept, tickets: &[u8]) -> Result<Holding, Ticketed>
     let count = ticket_count(tickets);
     let mut held = kept;
     for i in 0..count {
-        match add(file, held, record_at(tickets, i)) {
-            Ok(more) => held = more,
-            Err(refusal) => {
-                return Err(Ticketed {
-                    ticket: i + 1,
-                    answer: Err(refusal),
-                });
-            }
+        if let Err(refusal) = put(file, &mut held, record_at(tickets, i)) {
+            return Err(Ticketed {
+                ticket: i + 1,
+                answer: Err(refusal),
+            });
         }
     }
     Ok(Holding { count, kept: held })
@@ -86,17 +83,20 @@ fn ask_kept(file: &[u8], kept: Kept, tickets: &[u8], ticket: &[u8]) -> Asked
     requires { KeptBy file.now [] kept }
     ensures { result ≡ asked_about file.now (tickets_in tickets.now) ticket.now }
 {
-    match put_in(file, kept, tickets) {
-        Err(told) => refused(told),
-        Ok(held) => match add(file, held.kept, ticket) {
-            Err(refusal) => refused_with(held.count + 1, refusal),
-            Ok(more) => Asked {
-                ticket: held.count + 1,
-                answer: Ok(()),
-                before: kept_total(file, held.kept),
-                after: kept_total(file, more),
-            },
-        },
+    match &put_in(file, kept, tickets) {
+        Err(told) => refused(*told),
+        Ok(held) => {
+            let mut more = held.kept;
+            match put(file, &mut more, ticket) {
+                Err(refusal) => refused_with(held.count + 1, refusal),
+                Ok(()) => Asked {
+                    ticket: held.count + 1,
+                    answer: Ok(()),
+                    before: kept_total(file, held.kept),
+                    after: kept_total(file, more),
+                },
+            }
+        }
     }
 }
 
@@ -115,17 +115,20 @@ fn withdraw_kept(file: &[u8], kept: Kept, tickets: &[u8]) -> Asked
     requires { KeptBy file.now [] kept }
     ensures { result ≡ withdrawn_from file.now (tickets_in tickets.now) }
 {
-    match put_in(file, kept, tickets) {
-        Err(told) => refused(told),
-        Ok(held) => match withdraw(file, tickets, held.kept) {
-            Err(refusal) => refused_with(held.count, refusal),
-            Ok(less) => Asked {
-                ticket: held.count,
-                answer: Ok(()),
-                before: kept_total(file, held.kept),
-                after: kept_total(file, less),
-            },
-        },
+    match &put_in(file, kept, tickets) {
+        Err(told) => refused(*told),
+        Ok(held) => {
+            let mut less = held.kept;
+            match take_back(file, tickets, &mut less) {
+                Err(refusal) => refused_with(held.count, refusal),
+                Ok(()) => Asked {
+                    ticket: held.count,
+                    answer: Ok(()),
+                    before: kept_total(file, held.kept),
+                    after: kept_total(file, less),
+                },
+            }
+        }
     }
 }
 

@@ -1,7 +1,8 @@
 // A kept account: where the records of a file stand, and what the rows of each contract come to, with the tickets put in so far. It
 // answers without going through the rows.
-ghost use Rattle.std.specs.Prelude.{◌≡◌, List, [], ◌∷◌, ◌++◌, ◌≤◌, length};
+ghost use Rattle.std.specs.Prelude.{◌≡◌, List, [], ◌∷◌, ◌++◌, ◌≤◌, length, Ok, IfErr};
 ghost use Rattle.record.specs.Layout.{Record};
+ghost use Rattle.account.specs.Answers.{and_then};
 ghost use Rattle.account.specs.Records.{records, cut};
 ghost use Rattle.account.specs.code.Standing.{CheckedBy};
 ghost use Rattle.margin.specs.Figures.{account_total};
@@ -43,42 +44,49 @@ pub fn keep(file: &[u8], account: Account) -> Kept
     }
 }
 
-// The positions with one row more.
-fn with_row<'a>(file: &'a [u8], none: &'a [u8], kept: Kept, row: &[u8]) -> Positions
-    requires { (none.now ≡ []) × Takes file.now kept row.now }
-    ensures { (tickets : List Record) → KeptBy file.now tickets kept
-        → PositionsOf (records (with_tickets file.now (tickets ++ row.now ∷ []))) result }
+// The positions with one row more, where they stand.
+fn with_row<'a>(file: &'a [u8], none: &'a [u8], kept: &mut Kept, row: &[u8])
+    requires { (none.now ≡ []) × Takes file.now kept.old row.now }
+    ensures { (kept.new.counts ≡ kept.old.counts) × ((tickets : List Record) → KeptBy file.now tickets kept.old
+        → PositionsOf (records (with_tickets file.now (tickets ++ row.now ∷ []))) kept.new.positions) }
 {
     let account = account_of(kept.counts);
     let c = contract(row);
     let own = part(file, none, account, OWN + c);
     let prompts = part(file, none, account, PROMPTS + c);
     let rates = rates_of(part(file, none, account, RATES));
-    let mut at = kept.positions.at;
-    at[c] = with_rows(at[c], days_of(prompts), rates, unit(own) as u64, row);
-    Positions {
-        records: kept.positions.records + 1,
-        at,
-    }
+    let at = kept.positions.at[c];
+    kept.positions.at[c] = with_rows(at, days_of(prompts), rates, unit(own) as u64, row);
+    kept.positions.records += 1;
 }
 
-// The positions without the latest row.
-fn without_row<'a>(file: &'a [u8], none: &'a [u8], kept: Kept, row: &[u8]) -> Positions
-    requires { (none.now ≡ []) × Leaves file.now kept row.now }
-    ensures { (tickets : List Record) → KeptBy file.now (tickets ++ row.now ∷ []) kept
-        → PositionsOf (records (with_tickets file.now tickets)) result }
+// The positions without the latest row, where they stand.
+fn without_row<'a>(file: &'a [u8], none: &'a [u8], kept: &mut Kept, row: &[u8])
+    requires { (none.now ≡ []) × Leaves file.now kept.old row.now }
+    ensures { (kept.new.counts ≡ kept.old.counts) × ((tickets : List Record) → KeptBy file.now (tickets ++ row.now ∷ []) kept.old
+        → PositionsOf (records (with_tickets file.now tickets)) kept.new.positions) }
 {
     let account = account_of(kept.counts);
     let c = contract(row);
     let own = part(file, none, account, OWN + c);
     let prompts = part(file, none, account, PROMPTS + c);
     let rates = rates_of(part(file, none, account, RATES));
-    let mut at = kept.positions.at;
-    at[c] = without_rows(at[c], days_of(prompts), rates, unit(own) as u64, row);
-    Positions {
-        records: kept.positions.records - 1,
-        at,
-    }
+    let at = kept.positions.at[c];
+    kept.positions.at[c] = without_rows(at, days_of(prompts), rates, unit(own) as u64, row);
+    kept.positions.records -= 1;
+}
+
+// One ticket more, put in where the account is kept. A refusal changes nothing.
+pub fn put(file: &[u8], kept: &mut Kept, ticket: &[u8]) -> Result<(), Refusal>
+    requires { Keeps file.now kept.old }
+    ensures added { AddedTo file.now kept.old ticket.now (and_then result (Ok kept.new)) }
+    ensures as_it_was { IfErr result (λ _. kept.new ≡ kept.old) }
+{
+    let none = nothing_of(file);
+    check_ticket(file, none, kept.counts, ticket)?;
+    with_row(file, none, kept, ticket);
+    kept.counts = one_more(kept.counts, contract(ticket));
+    Ok(())
 }
 
 // One ticket more, put last among its contract's rows. The account that is handed in stays as it was.
@@ -86,12 +94,25 @@ pub fn add(file: &[u8], kept: Kept, ticket: &[u8]) -> Result<Kept, Refusal>
     requires { Keeps file.now kept }
     ensures { AddedTo file.now kept ticket.now result }
 {
-    let none = nothing_of(file);
-    check_ticket(file, none, kept.counts, ticket)?;
-    Ok(Kept {
-        counts: one_more(kept.counts, contract(ticket)),
-        positions: with_row(file, none, kept, ticket),
-    })
+    let mut more = kept;
+    put(file, &mut more, ticket)?;
+    Ok(more)
+}
+
+// The latest ticket withdrawn where the account is kept: `tickets` holds those put in so far, one after the other. A refusal changes nothing.
+pub(crate) fn take_back(file: &[u8], tickets: &[u8], kept: &mut Kept) -> Result<(), Refusal>
+    requires { KeptBy file.now (cut kept.old.counts.tickets tickets.now) kept.old }
+    ensures withdrawn { WithdrawnFrom file.now tickets.now kept.old (and_then result (Ok kept.new)) }
+    ensures as_it_was { IfErr result (λ _. kept.new ≡ kept.old) }
+{
+    let count = tickets_of(kept.counts);
+    if count == 0 {
+        return Err(Refusal::NoTicketLeft);
+    }
+    let ticket = record_at(tickets, count - 1);
+    without_row(file, nothing_of(file), kept, ticket);
+    kept.counts = one_less(kept.counts, contract(ticket));
+    Ok(())
 }
 
 // The latest ticket withdrawn: `tickets` holds those put in so far, one after the other. The account that is handed in stays as it was.
@@ -99,15 +120,9 @@ pub fn withdraw(file: &[u8], tickets: &[u8], kept: Kept) -> Result<Kept, Refusal
     requires { KeptBy file.now (cut kept.counts.tickets tickets.now) kept }
     ensures { WithdrawnFrom file.now tickets.now kept result }
 {
-    let count = tickets_of(kept.counts);
-    if count == 0 {
-        return Err(Refusal::NoTicketLeft);
-    }
-    let ticket = record_at(tickets, count - 1);
-    Ok(Kept {
-        counts: one_less(kept.counts, contract(ticket)),
-        positions: without_row(file, nothing_of(file), kept, ticket),
-    })
+    let mut less = kept;
+    take_back(file, tickets, &mut less)?;
+    Ok(less)
 }
 
 // The total of the margins.

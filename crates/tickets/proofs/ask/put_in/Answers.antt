@@ -1,4 +1,4 @@
-use Rattle.std.specs.Prelude.{Result, Err}
+use Rattle.std.specs.Prelude.{Result, Ok, Err}
 use mathlib.Core.Path.{◌≡◌, refl, sym, ap, ◌∙◌, subst}
 use mathlib.Core.List.{List, [], ◌∷◌, ◌++◌}
 use Prim.Native.Nat.{ℕ, ◌+◌, ◌/◌}
@@ -19,7 +19,7 @@ use Rattle.tickets.specs.Ticket.{with_tickets, ticket_checked}
 use Rattle.tickets.specs.declared.kept.Kept.{Kept}
 use Rattle.tickets.proofs.AskLaws.{FromOn, from_start, from_next, from_stops, from_end}
 use Rattle.tickets.proofs.ask.put_in.Goals as goal
-use Rattle.tickets.proofs.ask.put_in.Goals.{After-add}
+use Rattle.tickets.proofs.ask.put_in.Goals.{After-put}
 
 -- as many as there are
 all : (bytes : List ℕ) (n : ℕ) → n ≡ length (tickets_in bytes) → cut n bytes ≡ tickets_in bytes
@@ -32,24 +32,19 @@ next file bytes k i t e kb =
     (ap (λ (x : Record). cut i bytes ++ x ∷ []) e ∙ sym (cut_more i bytes) ∙ ap (λ (m : ℕ). cut m bytes) (sym (add-one i))) kb
 
 -- what is told of a ticket
-module _ (c : After-add) where
-  told : answer_of c.add.result
-      ≡ ticket_checked (with_tickets c.args.file.now (cut c.loop-i.i c.args.tickets.now)) (record_at c.args.tickets.now c.loop-i.i)
-  told =
-      let bytes = c.args.tickets.now in
-      let l = c.loop-i in
-      c.add.ensures.told (cut l.i bytes) l.invariant.0
-      ∙ ap (ticket_checked (with_tickets c.args.file.now (cut l.i bytes))) c.record_at.ensures
-
-  by : (r : Result Kept Refusal) → c.add.result ≡ r → AddedTo c.args.file.now c.loop-i.held c.record_at.result.now r
-  by r e = subst (λ (x : Result Kept Refusal). AddedTo c.args.file.now c.loop-i.held c.record_at.result.now x) e c.add.ensures
+told : (c : After-put) (r : Result Kept Refusal) → AddedTo c.args.file.now c.loop-i.held c.record_at.result.now r
+    → answer_of r ≡ ticket_checked (with_tickets c.args.file.now (cut c.loop-i.i c.args.tickets.now)) (record_at c.args.tickets.now c.loop-i.i)
+told c r added =
+    let bytes = c.args.tickets.now in
+    let l = c.loop-i in
+    added.told (cut l.i bytes) l.invariant.0 ∙ ap (ticket_checked (with_tickets c.args.file.now (cut l.i bytes))) c.record_at.ensures
 
 pub loop-i-init : goal.loop-i-init
 loop-i-init c =
     (c.requires, from_start c.args.file.now c.args.tickets.now c.ticket_count-count.result)
 
-pub add-requires : goal.add-requires
-add-requires c =
+pub put-requires : goal.put-requires
+put-requires c =
     let l = c.loop-i in
     record { tickets = cut l.i c.args.tickets.now; kept = l.invariant.0 }
 
@@ -59,7 +54,7 @@ returns-in-Err c =
     let bytes = c.args.tickets.now in
     let l = c.loop-i in
     let n = c.ticket_count-count.result in
-    let e = sym (ap answer_of c.in-Err.is) ∙ told (goal.at.returns-in-Err c).After-add in
+    let e = told (goal.at.returns-in-Err c).After-put (Err c.in-Err.refusal) c.in-Err.ensures.added in
     record {
       told =
           from_stops file bytes n l.i c.loop-i-test.true (Err c.in-Err.refusal) e (refused_some refl)
@@ -73,9 +68,9 @@ loop-i-preserved c =
     let bytes = c.args.tickets.now in
     let l = c.loop-i in
     let n = c.ticket_count-count.result in
-    let e = sym (ap answer_of c.in-Ok.is) ∙ told (goal.at.loop-i-preserved c).After-add in
-    let added = by (goal.at.loop-i-preserved c).After-add _ c.in-Ok.is in (
-      next file bytes c.in-Ok.more l.i c.record_at.result.now c.record_at.ensures (added.accepted (cut l.i bytes) l.invariant.0),
+    let added = c.in_default.ensures.added in
+    let e = told (goal.at.loop-i-preserved c).After-put (Ok c.put.new.kept) added in (
+      next file bytes c.put.new.kept l.i c.record_at.result.now c.record_at.ensures (added.accepted (cut l.i bytes) l.invariant.0),
       l.invariant.1 ∙ from_next file bytes n l.i c.loop-i-test.true (ap number_of (sym e)),
     )
 

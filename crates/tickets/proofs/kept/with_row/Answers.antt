@@ -1,6 +1,6 @@
 -- The row is added to what the rows of its contract come to.
 -- Assumes nothing.
-use mathlib.Core.Path.{subst, subst⁻¹}
+use mathlib.Core.Path.{refl, subst, subst⁻¹}
 use mathlib.Core.List.{List, [], ◌∷◌, ◌++◌}
 use Prim.Native.Nat.{ℕ, ◌+◌, ◌-◌, ◌≤◌}
 use native.Mathlib.Omega.{arith}
@@ -24,25 +24,25 @@ pub part-own-requires : goal.part-own-requires
 part-own-requires c =
     let x = c.requires.1 in
     subst⁻¹ (λ (a : Account). Stands c.args.file.now c.args.none.now a) c.account_of-account.ensures
-    (stands_kept c.args.file.now x.tickets c.args.kept x.kept c.args.none.now c.requires.0)
+    (stands_kept c.args.file.now x.tickets c.args.kept.now x.kept c.args.none.now c.requires.0)
 
 pub part-prompts-requires : goal.part-prompts-requires
 part-prompts-requires c =
     let x = c.requires.1 in
     subst⁻¹ (λ (a : Account). Stands c.args.file.now c.args.none.now a) c.account_of-account.ensures
-    (stands_kept c.args.file.now x.tickets c.args.kept x.kept c.args.none.now c.requires.0)
+    (stands_kept c.args.file.now x.tickets c.args.kept.now x.kept c.args.none.now c.requires.0)
 
 pub part-requires : goal.part-requires
 part-requires c =
     let x = c.requires.1 in
     subst⁻¹ (λ (a : Account). Stands c.args.file.now c.args.none.now a) c.account_of-account.ensures
-    (stands_kept c.args.file.now x.tickets c.args.kept x.kept c.args.none.now c.requires.0)
+    (stands_kept c.args.file.now x.tickets c.args.kept.now x.kept c.args.none.now c.requires.0)
 
-pub bounds-at-c : goal.bounds-at-c
-bounds-at-c c =
+pub bounds-kept-c : goal.bounds-kept-c
+bounds-kept-c c =
     let x = c.requires.1 in
     let l = low_kept c.args.file.now x.tickets c.args.row.now
-    (with_ok c.args.file.now x.tickets c.args.kept.counts x.kept.counts) (x.taken x.tickets x.kept) in
+    (with_ok c.args.file.now x.tickets c.args.kept.now.counts x.kept.counts) (x.taken x.tickets x.kept) in
     omega (arith, c.contract-c.ensures.0)
 
 pub days_of-requires : goal.days_of-requires
@@ -50,10 +50,10 @@ days_of-requires c =
     let x = c.requires.1 in
     let a = account_of c.args.file.now c.args.none.now in
     let bytes = c.part-prompts.result.now in
-    days_asked c.args.file.now c.args.kept.counts.account c.args.none.now
-    (stands_kept c.args.file.now x.tickets c.args.kept x.kept c.args.none.now c.requires.0)
-    x.tickets c.args.row.now (with_ok c.args.file.now x.tickets c.args.kept.counts x.kept.counts)
-    (x.taken x.tickets x.kept) (told_kept c.args.file.now x.tickets c.args.kept x.kept c.args.none.now c.requires.0).beside
+    days_asked c.args.file.now c.args.kept.now.counts.account c.args.none.now
+    (stands_kept c.args.file.now x.tickets c.args.kept.now x.kept c.args.none.now c.requires.0)
+    x.tickets c.args.row.now (with_ok c.args.file.now x.tickets c.args.kept.now.counts x.kept.counts)
+    (x.taken x.tickets x.kept) (told_kept c.args.file.now x.tickets c.args.kept.now x.kept c.args.none.now c.requires.0).beside
     bytes (subst (λ (n : ℕ). PartOf a (part 2 n) bytes) c.contract-c.ensures.0
     c.part-prompts.ensures)
 
@@ -70,28 +70,28 @@ with_rows-requires c =
     × RowsPlaced c.days_of.result.count c.days_of.result.day (records c.args.row.now))
     × (RowsFit (records c.args.row.now)
     × (RatedBy c.rates_of-rates.result (records c.args.row.now)
-    × Bounded (most_rows - length (records c.args.row.now)) (get_or c.args.kept.positions.at n no_position)))))
+    × Bounded (most_rows - length (records c.args.row.now)) (get_or c.args.kept.now.positions.at n no_position)))))
     e
-    (more_asks c.args.file.now c.args.kept.counts.account c.args.none.now
-    (stands_kept c.args.file.now x.tickets c.args.kept x.kept c.args.none.now c.requires.0)
-    x.tickets c.args.row.now (with_ok c.args.file.now x.tickets c.args.kept.counts x.kept.counts)
-    (x.taken x.tickets x.kept) (told_kept c.args.file.now x.tickets c.args.kept x.kept c.args.none.now c.requires.0).beside
+    (more_asks c.args.file.now c.args.kept.now.counts.account c.args.none.now
+    (stands_kept c.args.file.now x.tickets c.args.kept.now x.kept c.args.none.now c.requires.0)
+    x.tickets c.args.row.now (with_ok c.args.file.now x.tickets c.args.kept.now.counts x.kept.counts)
+    (x.taken x.tickets x.kept) (told_kept c.args.file.now x.tickets c.args.kept.now x.kept c.args.none.now c.requires.0).beside
     own prompts rates (subst (λ (n : ℕ). PartOf a (part 1 n) own) e c.part-own.ensures)
     (subst (λ (n : ℕ). PartOf a (part 2 n) prompts) e c.part-prompts.ensures)
     c.part.ensures c.rates_of-rates.result
     c.rates_of-rates.ensures
-    c.days_of.result c.days_of.ensures c.unit.result c.unit.ensures.0 c.args.kept.positions x.kept.positions)
+    c.days_of.result c.days_of.ensures c.unit.result c.unit.ensures.0 c.args.kept.now.positions x.kept.positions)
 
-pub bounds-at-c-2 : goal.bounds-at-c-2
-bounds-at-c-2 c =
+pub bounds-kept-c-2 : goal.bounds-kept-c-2
+bounds-kept-c-2 c =
     let x = c.requires.1 in
     let l = low_kept c.args.file.now x.tickets c.args.row.now
-    (with_ok c.args.file.now x.tickets c.args.kept.counts x.kept.counts) (x.taken x.tickets x.kept) in
+    (with_ok c.args.file.now x.tickets c.args.kept.now.counts x.kept.counts) (x.taken x.tickets x.kept) in
     omega (arith, c.contract-c.ensures.0)
 
-pub overflow_add-result : goal.overflow_add-result
-overflow_add-result c =
-    omega (arith, few_kept c.args.file.now c.requires.1.tickets c.args.kept c.requires.1.kept)
+pub overflow_add-kept : goal.overflow_add-kept
+overflow_add-kept c =
+    omega (arith, few_kept c.args.file.now c.requires.1.tickets c.args.kept.now c.requires.1.kept)
 
 pub returns : goal.returns
 returns c =
@@ -102,26 +102,28 @@ returns c =
     let rates = c.part.result.now in
     let table = c.rates_of-rates.result in
     let e = c.contract-c.ensures.0 in
-    let q = c.with_rows.result in
-    λ ts kb.
-    subst⁻¹
-    (λ (n : ℕ). PositionsOf (records (with_tickets c.args.file.now (ts ++ c.args.row.now ∷ [])))
-    (record { records = c.args.kept.positions.records + 1; at = set c.args.kept.positions.at n q }))
-    e
-    (row_added c.args.file.now c.args.kept.counts.account c.args.none.now
-    (stands_kept c.args.file.now (ts) c.args.kept kb c.args.none.now c.requires.0)
-    ts c.args.row.now (with_ok c.args.file.now ts c.args.kept.counts kb.counts) (x.taken ts kb)
-    (told_kept c.args.file.now ts c.args.kept kb c.args.none.now c.requires.0).beside
-    own prompts rates
-    (subst (λ (n : ℕ). PartOf a (part 1 n) own) e c.part-own.ensures)
-    (subst (λ (n : ℕ). PartOf a (part 2 n) prompts) e c.part-prompts.ensures)
-    c.part.ensures table c.rates_of-rates.ensures
-    c.days_of.result c.days_of.ensures c.unit.result
-    c.unit.ensures.0 c.args.kept.positions kb.positions
-    q
-    (subst
-    (λ (n : ℕ). (held ps earlier : List Record) → RatesOf held table → DaysOf ps c.days_of.result
-    → PositionOf held c.unit.result ps earlier (get_or c.args.kept.positions.at n no_position)
-    → PositionOf held c.unit.result ps (earlier ++ records c.args.row.now) q)
-    e c.with_rows.ensures.more)
-    c.with_rows.ensures.most)
+    let q = c.with_rows.result in (
+      refl,
+      λ ts kb.
+          subst⁻¹
+          (λ (n : ℕ). PositionsOf (records (with_tickets c.args.file.now (ts ++ c.args.row.now ∷ [])))
+          (record { records = c.args.kept.now.positions.records + 1; at = set c.args.kept.now.positions.at n q }))
+          e
+          (row_added c.args.file.now c.args.kept.now.counts.account c.args.none.now
+          (stands_kept c.args.file.now (ts) c.args.kept.now kb c.args.none.now c.requires.0)
+          ts c.args.row.now (with_ok c.args.file.now ts c.args.kept.now.counts kb.counts) (x.taken ts kb)
+          (told_kept c.args.file.now ts c.args.kept.now kb c.args.none.now c.requires.0).beside
+          own prompts rates
+          (subst (λ (n : ℕ). PartOf a (part 1 n) own) e c.part-own.ensures)
+          (subst (λ (n : ℕ). PartOf a (part 2 n) prompts) e c.part-prompts.ensures)
+          c.part.ensures table c.rates_of-rates.ensures
+          c.days_of.result c.days_of.ensures c.unit.result
+          c.unit.ensures.0 c.args.kept.now.positions kb.positions
+          q
+          (subst
+          (λ (n : ℕ). (held ps earlier : List Record) → RatesOf held table → DaysOf ps c.days_of.result
+          → PositionOf held c.unit.result ps earlier (get_or c.args.kept.now.positions.at n no_position)
+          → PositionOf held c.unit.result ps (earlier ++ records c.args.row.now) q)
+          e c.with_rows.ensures.more)
+          c.with_rows.ensures.most),
+    )

@@ -1,6 +1,6 @@
 -- The check on its way: no fault before record k, and the notes are those of the records before it.
 -- Assumes nothing.
-use Rattle.std.specs.Prelude.{Ok, Err}
+use Rattle.std.specs.Prelude.{Ok}
 use Prim.Native.Nat.{ℕ, zero, suc, ◌+◌, ◌-◌, ◌≤◌, ◌<◌}
 use mathlib.Core.Path.{◌≡◌, refl, sym, ap, subst, subst⁻¹, ◌∙◌}
 use mathlib.Core.Bool.{Bool, true, false, cond, ◌&&◌, ◌||◌}
@@ -24,11 +24,9 @@ use Rattle.account.specs.PartNumbers.{in_part, of_accepted, parts}
 use Rattle.account.specs.Parts.{of_kind, start_of}
 use Rattle.account.specs.code.Passing.{part_at_record, counted_to, Passes, Notable, Advances}
 use Rattle.account.specs.Records.{cut, record_at, records, record_count, earlier}
-use Rattle.account.specs.declared.answers.Refusal.{Refusal}
 use Rattle.account.specs.code.Surveyed.{converts_in, Surveyed, Empty, Tallied}
 use Rattle.account.specs.Answers.{Answer}
 use Rattle.account.specs.declared.check.Survey.{Survey}
-use Rattle.account.proofs.AcceptedOnly.{refused_some}
 use Rattle.account.proofs.Earlier.{cut_more}
 use Rattle.account.proofs.Every.{none_passes}
 use Rattle.account.proofs.Faults.{same_fault}

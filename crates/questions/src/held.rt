@@ -71,14 +71,7 @@ fn everything(
         books.new uses.new }
 {
     match checked {
-        Ok(account) => told(everything_over(
-            file,
-            nothing_of(file),
-            account,
-            figures,
-            books,
-            uses,
-        )),
+        Ok(account) => told(everything_over(file, nothing_of(file), account, figures, books, uses)),
         Err(refusal) => refused(refusal),
     }
 }
@@ -116,14 +109,7 @@ pub fn ask_all(file: &[u8], figures: &mut [i64], books: &mut [i64], uses: &mut [
 {
     let mut notes = [0u16; NOTES];
     match lend_file(file, &mut notes) {
-        Ok(()) => told(everything_lent(
-            file,
-            nothing_of(file),
-            &notes,
-            figures,
-            books,
-            uses,
-        )),
+        Ok(()) => told(everything_lent(file, nothing_of(file), &notes, figures, books, uses)),
         Err(refusal) => refused(refusal),
     }
 }

@@ -28,11 +28,11 @@ fn of_joined(answer: Result<(), Refusal>) -> Verdict
 fn answer_pair<'a>(
     morning: &'a [u8],
     noon: &'a [u8],
-    checked: CheckedPair,
+    checked: &CheckedPair,
     question: Question,
     out: &mut [i64],
 ) -> Verdict
-    requires { PairBy morning.now noon.now checked }
+    requires { PairBy morning.now noon.now checked.now }
     ensures { (result ≡ joined_answer morning.now noon.now question (length out.old))
         × (out.new ≡ after_joined morning.now noon.now question out.old) }
 {
@@ -47,7 +47,7 @@ pub fn answer<'a>(morning: &'a [u8], noon: &'a [u8], question: Question, out: &m
     ensures { (result ≡ joined_answer morning.now noon.now question (length out.old))
         × (out.new ≡ after_joined morning.now noon.now question out.old) }
 {
-    answer_pair(morning, noon, check_pair(morning, noon), question, out)
+    answer_pair(morning, noon, &check_pair(morning, noon), question, out)
 }
 
 // How many numbers the answer of a question has, 0 where there is none.

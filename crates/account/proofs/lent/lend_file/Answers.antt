@@ -1,9 +1,7 @@
 -- The check's answer, and the account by what is noted, lent.
 -- Assumes nothing.
-use Rattle.std.specs.Prelude.{List, ℕ, Ok, IfOk}
-use mathlib.Core.Path.{sym, subst, subst⁻¹, ap, ◌∙◌}
-use Rattle.account.specs.Checked.{checked}
-use Rattle.account.specs.code.Lent.{account_in}
+use Rattle.std.specs.Prelude.{List, ℕ, Ok}
+use mathlib.Core.Path.{sym, subst, subst⁻¹, ◌∙◌}
 use Rattle.account.specs.code.Standing.{CheckedBy, StoodIn}
 use Rattle.account.specs.declared.accounts.Account.{Account}
 use Rattle.account.proofs.Alone.{few_listed, checked_noted}

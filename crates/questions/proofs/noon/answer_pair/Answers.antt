@@ -8,24 +8,24 @@ use Rattle.questions.proofs.noon.answer_pair.Goals as goal
 use Rattle.questions.proofs.noon.answer_pair.Goals.{Else-is_err}
 
 -- nothing is refused so far
-clear : (c : Else-is_err) → number_of c.args.checked.verdict.answer ≡ 0
+clear : (c : Else-is_err) → number_of c.args.checked.now.verdict.answer ≡ 0
 clear c = err_none _ (sym c.is_err.ensures.value ∙ c.if-is_err.false)
 
 pub returns-then-is_err : goal.returns-then-is_err
 returns-then-is_err c =
     let a = c.args in
-    answer_refused a.morning.now a.noon.now a.checked c.requires (err_some _ (sym c.is_err.ensures.value ∙ c.if-is_err.true))
+    answer_refused a.morning.now a.noon.now a.checked.now c.requires (err_some _ (sym c.is_err.ensures.value ∙ c.if-is_err.true))
     a.question a.out.now
 
 pub answer_over-requires : goal.answer_over-requires
 answer_over-requires c =
     let a = c.args in
-    pair_stands a.morning.now a.noon.now a.checked c.requires (clear (goal.at.answer_over-requires c).Else-is_err)
+    pair_stands a.morning.now a.noon.now a.checked.now c.requires (clear (goal.at.answer_over-requires c).Else-is_err)
 
 pub returns : goal.returns
 returns c =
     let a = c.args in
     let r = c.answer_over in
     let v = c.of_joined in
-    answer_accepted a.morning.now a.noon.now a.checked c.requires (clear (goal.at.returns c).Else-is_err) a.question a.out.now
+    answer_accepted a.morning.now a.noon.now a.checked.now c.requires (clear (goal.at.returns c).Else-is_err) a.question a.out.now
     r.new.out r.result v.result v.ensures r.ensures

@@ -194,14 +194,16 @@ pub fn take_survey(file: &[u8]) -> Survey
 {
     let mut first = [0u16; PARTS];
     let mut counts = [0u16; PARTS];
-    match note_file(file, &mut first, &mut counts) {
-        Ok(noted) => Survey {
-            answer: Ok(()),
-            contracts: noted.contracts,
-            first,
-            counts,
-            converts: noted.converts,
-        },
-        Err(refusal) => refused(Err(refusal)),
+    // A return: a survey that a match gives is copied once more.
+    let noted = match note_file(file, &mut first, &mut counts) {
+        Ok(noted) => noted,
+        Err(refusal) => return refused(Err(refusal)),
+    };
+    Survey {
+        answer: Ok(()),
+        contracts: noted.contracts,
+        first,
+        counts,
+        converts: noted.converts,
     }
 }

@@ -41,15 +41,11 @@ pub fn load(lent: &[u8], named: usize) -> Result<(), Refusal>
 fn place_order(file: &[u8], ticket: &[u8]) -> Result<usize, Refusal>
     ensures { result ≡ placed_in file.now ticket.now }
 {
-    match &check_file(file) {
-        Ok(account) => {
-            let none = nothing_of(file);
-            let counts = counts_of(file, none, *account);
-            check_ticket(file, none, counts, ticket)?;
-            Ok(ticket_place(file, counts, ticket) * RECORD_BYTES)
-        }
-        Err(refusal) => Err(*refusal),
-    }
+    let account = check_file(file)?;
+    let none = nothing_of(file);
+    let counts = counts_of(file, none, account);
+    check_ticket(file, none, counts, ticket)?;
+    Ok(ticket_place(file, counts, ticket) * RECORD_BYTES)
 }
 
 // A ticket put last among its contract's rows, in the lent bytes: the later ones are moved up. How many bytes hold the file then; a

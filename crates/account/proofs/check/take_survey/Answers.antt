@@ -6,8 +6,8 @@ use Rattle.account.proofs.AcceptedOnly.{refused_some}
 use Rattle.account.proofs.Going.{nothing}
 use Rattle.account.proofs.check.take_survey.Goals as goal
 
-pub returns-in-Ok : goal.returns-in-Ok
-returns-in-Ok c = c.in-Ok.ensures.accepted refl
+pub returns : goal.returns
+returns c = c.in-Ok.ensures.accepted refl
 
 pub returns-in-Err : goal.returns-in-Err
 returns-in-Err c =

@@ -24,7 +24,7 @@ use Rattle.account.specs.Joined.{account_of}
 use Rattle.account.specs.code.Surveyed.{Surveyed, Tallied}
 use Rattle.account.specs.declared.check.Survey.{Survey}
 use Rattle.account.specs.declared.accounts.Account.{Account}
-use Rattle.account.proofs.Going.{same_survey, unconverted}
+use Rattle.account.proofs.Going.{same_survey, tallied_as, unconverted}
 use Rattle.account.proofs.AcceptedOnly.{accepted_only}
 use Rattle.account.proofs.RateLaws.{lawful_of, no_other_row}
 use Rattle.account.proofs.Lawful.{recorded}
@@ -160,6 +160,11 @@ module _ (file : List ℕ) (s : Survey) (j : Account) (sv : Surveyed file s) (by
       }
 
 -- the records are accepted: the rates are looked at, by what is noted
+pub tallied_accepted :
+    {file first counts : List ℕ} {a : Answer} {contracts : ℕ} {converts : Bool} → Tallied file a contracts converts first counts
+    → number_of a ≡ 0 → Tallied file (Ok tt) contracts converts first counts
+tallied_accepted {file} {first} {counts} {a} t z = tallied_as (sym (accepted_only a z)) t
+
 module _ (file : List ℕ) (contracts : ℕ) {converts : Bool} (first counts : List ℕ) (t : Tallied file (Ok tt) contracts converts first counts) where
   abbrev its : Survey
   its = record { answer = Ok tt; contracts = contracts; first = first; counts = counts; converts = converts }

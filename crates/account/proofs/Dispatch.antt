@@ -33,6 +33,12 @@ module _ (before r : Record) where
   pub order_6 : kind r ≡ 6 → out_of_order before r ≡ currency_not_above before r
   order_6 e = rw e
 
+  pub order_none :
+      (kind r ≡ 1 → ⊥) → (kind r ≡ 2 → ⊥) → (kind r ≡ 3 → ⊥) → (kind r ≡ 4 → ⊥) → (kind r ≡ 5 → ⊥) → (kind r ≡ 6 → ⊥)
+      → out_of_order before r ≡ false
+  order_none a b c d e f =
+      rw (ne_eqb (kind r) 1 a, ne_eqb (kind r) 2 b, ne_eqb (kind r) 3 c, ne_eqb (kind r) 4 d, ne_eqb (kind r) 5 e, ne_eqb (kind r) 6 f)
+
 module _ (counts : List ℕ) (prompts : List Record) (r : Record) where
   pub listed_2 : kind r ≡ 2 → unlisted_by counts prompts r ≡ no_contract counts (contract r)
   listed_2 e = rw e

@@ -168,6 +168,11 @@ left_after xs n c m h old =
     let b : m - n ≡ suc (m - (n + 1)) = omega arith in
     ap (λ (k : ℕ). drop k (set xs n c)) a ∙ drop-set xs n c ∙ left_next xs n (m - (n + 1)) (old ∙ ap (λ (k : ℕ). replicate k 0) b)
 
+pub sum_next : (xs : List ℕ) (v : ℕ) → v < length xs → sum (take (suc v) xs) ≡ sum (take v xs) + get_or xs v 0
+sum_next [] v h = absurd (not-suc-le-zero h)
+sum_next (x ∷ xs) zero h = omega arith
+sum_next (x ∷ xs) (suc v) h = let r = sum_next xs v (le_of_suc-le-suc h) in omega arith
+
 -- the sum of the library is the one of `exact`
 pub sum_is : (xs : List ℕ) → Std.sum xs ≡ sum xs
 sum_is [] = refl

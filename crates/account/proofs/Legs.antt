@@ -1,12 +1,12 @@
 -- The legs of a sound interprompt spread that do not meet: they do not clash either.
 -- Assumes nothing.
-use Prim.Native.Nat.{ℕ}
+use Prim.Native.Nat.{ℕ, ◌+◌, ◌*◌, ◌<◌}
 use mathlib.Core.Path.{◌≡◌, refl, sym, ap, ◌∙◌}
 use mathlib.Core.Bool.{Bool, true, false, not, cond, ◌&&◌, ◌||◌, or-false, or-true, and-true}
 use mathlib.Core.List.{List, [], ◌∷◌}
 use lib.Dec.{eqb}
 use native.Mathlib.Omega.{arith}
-use borrow.Author.Tests.{eqb-false, eq-eqb}
+use borrow.Author.Tests.{eqb-true, eqb-false, eq-eqb, ne_eqb}
 use Rattle.exact.specs.Lists.{any}
 use Rattle.record.specs.Layout.{Record, leg_count, two_legs, leg_side}
 use Rattle.record.specs.Within.{Between, SpreadWithin, LegWithin}
@@ -20,6 +20,20 @@ or_off p q = rw (p, q)
 or_more : (a b c : Bool) → a || b ≡ true → a || (b || c) ≡ true
 or_more true b c h = refl
 or_more false b c h = ap (λ (t : Bool). t || c) h
+
+-- two bytes in one number: it is another's just where both are
+pub two_bytes : (a b c d : ℕ) → a < 256 → c < 256 → eqb (a + 256 * b) (c + 256 * d) ≡ eqb a c && eqb b d
+two_bytes a b c d small less = go (eqb a c) refl (eqb b d) refl
+  where
+    go : (s : Bool) → eqb a c ≡ s → (t : Bool) → eqb b d ≡ t → eqb (a + 256 * b) (c + 256 * d) ≡ s && t
+    go true e true f = eq-eqb (a + 256 * b) (c + 256 * d) (omega (arith, eqb-true a c e, eqb-true b d f))
+    go true e false f = ne_eqb (a + 256 * b) (c + 256 * d) (λ z. eqb-false b d f (omega (arith, eqb-true a c e)))
+    go false e t f = ne_eqb (a + 256 * b) (c + 256 * d) (λ z. eqb-false a c e (omega arith))
+
+-- two legs, and the third where there is one
+pub by_legs : (f : ℕ → Bool) (two : Bool) → f 0 || (f 1 || (not two && f 2)) ≡ any f (0 ∷ 1 ∷ cond two [] (2 ∷ []))
+by_legs f true = refl
+by_legs f false = ap (λ (b : Bool). f 0 || (f 1 || b)) (sym (or-false (f 2)))
 
 -- of two sides that differ one is either
 either_side : (x y side : ℕ) → Between 1 x 2 → Between 1 y 2 → Between 1 side 2 → eqb x y ≡ false → eqb x side || eqb y side ≡ true

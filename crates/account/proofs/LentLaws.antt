@@ -6,8 +6,8 @@ use native.Mathlib.Omega.{arith}
 use mathlib.Core.Path.{◌≡◌, refl, sym, ap, subst, ◌∙◌}
 use mathlib.Core.Bool.{Bool, true, false}
 use mathlib.Core.List.{List, [], ◌∷◌, ◌++◌, map, append_assoc}
-use lib.ListN.{length, get_or, set, take, drop, length-set, length-map}
-use lib.ListN.{get_or-map}
+use lib.ListN.{length, get_or, set, take, drop, length-set, length-take, length-map}
+use lib.ListN.{get_or-eq_default, get_or-map}
 use lib.Seq.{get_or-take, get_or-drop, take_at, drop_at, drop-drop, take_all}
 use borrow.Rule.Slice.PartMut.{put_mid}
 use Rattle.std.proofs.lemmas.List.Edits.{length-paste}
@@ -26,6 +26,9 @@ use Rattle.account.proofs.Filled.{take_next}
 module _ (notes : List ℕ) (at n i : ℕ) where
   pub read_in : i < n → get_or (take n (drop at notes)) i 0 ≡ get_or notes (at + i) 0
   read_in h = get_or-take n (drop at notes) i 0 h ∙ get_or-drop at notes i 0
+
+  pub read_past : n ≤ i → get_or (take n (drop at notes)) i 0 ≡ 0
+  read_past h = get_or-eq_default (take n (drop at notes)) 0 (omega (arith, length-take n (drop at notes)))
 
 -- whether the noon file supplies a contract
 pub read_late : (notes : List ℕ) (c : ℕ) → c < most_contracts → get_or (account_in notes).noon c false ≡ flagged (get_or notes (late_note + c) 0)
@@ -83,6 +86,11 @@ pub flags_back : (bs : List Bool) → map flagged (map one_if bs) ≡ bs
 flags_back [] = refl
 flags_back (true ∷ bs) = ap (λ (xs : List Bool). true ∷ xs) (flags_back bs)
 flags_back (false ∷ bs) = ap (λ (xs : List Bool). false ∷ xs) (flags_back bs)
+
+-- what is put after what stands
+put_next : (at n : ℕ) (before after xs ys : List ℕ) → length ys ≡ n → take at before ≡ xs → take (at + length ys) after ≡ take at before ++ ys
+    → take (at + n) after ≡ xs ++ ys
+put_next at n before after xs ys e b a = ap (λ (k : ℕ). take (at + k) after) (sym e) ∙ a ∙ ap (λ (zs : List ℕ). zs ++ ys) b
 
 -- a stretch is put in after what stands
 pub mid_length : (at n : ℕ) (xs ys : List ℕ) → length ys ≡ n → at + n ≤ length xs → length (put_mid at n xs ys) ≡ length xs

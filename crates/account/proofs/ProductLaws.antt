@@ -8,8 +8,8 @@ use native.Mathlib.Nat.{mul-le-mul, mul-pos, mul-zero}
 use native.Mathlib.Omega.{arith}
 use lib.Dec.{eqb}
 use lib.IntN.{ℤ, pos, nat_abs, ◌*ℤ◌}
-use lib.ListN.{length, get_or}
-use lib.Seq.{ext_get_or}
+use lib.ListN.{length, get_or, set, replicate, get_or-replicate}
+use lib.Seq.{get_or-set_same, get_or-set_other, ext_get_or}
 use borrow.Author.Tests.{eqb-true, eqb-false, ne_eqb, ltb-false}
 use Rattle.exact.specs.Lists.{any}
 use Rattle.exact.specs.Signed.{negative}
@@ -29,6 +29,24 @@ use Rattle.account.specs.declared.rates.Rates.{Rates}
 -- what the table holds of each currency, by what it keeps of a rate
 abbrev pub Held : (Record → ℕ) → List Record → List ℕ → Type 0
 Held f rates xs = (c : ℕ) → c ≤ most_currency → get_or xs c 0 ≡ f (rate_for rates c)
+
+module _ (f : Record → ℕ) where
+  pub held_none : f [] ≡ 0 → Held f [] (replicate (most_currency + 1) 0)
+  held_none e c h = get_or-replicate (most_currency + 1) c 0 0 (omega arith) ∙ sym e
+
+  pub held_more : (rate : Record) (rates : List Record) (xs : List ℕ) (x : ℕ) → length xs ≡ most_currency + 1 → rate_currency rate ≤ most_currency
+      → x ≡ f rate → Held f rates xs → Held f (rate ∷ rates) (set xs (rate_currency rate) x)
+  held_more rate rates xs x long small e held c h = go (eqb (rate_currency rate) c) refl
+    where
+      go : (t : Bool) → eqb (rate_currency rate) c ≡ t → get_or (set xs (rate_currency rate) x) c 0 ≡ f (cond t rate (rate_for rates c))
+      go true q =
+          ap (λ (k : ℕ). get_or (set xs (rate_currency rate) x) k 0) (sym (eqb-true _ _ q))
+          ∙ get_or-set_same xs (rate_currency rate) x 0 (omega arith) ∙ e
+      go false q = get_or-set_other xs (rate_currency rate) c x 0 (λ k. eqb-false _ _ q (sym k)) ∙ held c h
+
+  pub held_past : (rate : Record) (rates : List Record) (xs : List ℕ) → most_currency < rate_currency rate → Held f rates xs → Held f (rate ∷ rates) xs
+  held_past rate rates xs large held c h =
+      held c h ∙ ap (λ (t : Bool). f (cond t rate (rate_for rates c))) (sym (ne_eqb (rate_currency rate) c (λ e. omega arith)))
 
 -- ---- how large the factors are
 

@@ -60,6 +60,23 @@ days_start prompts =
         byte_past (replicate most_prompts 0) i l
 
 module _ {prompts days : List ℕ} {j : ℕ} (t : DaysTo prompts days j) where
+  pub days_next : (d : ℕ) → d ≡ day (record_at prompts j) → j < most_prompts → DaysTo prompts (set days j d) (j + 1)
+  days_next d e h =
+      record {
+        long = length-set days j d ∙ t.long;
+        noted = λ i l. here i l (eqb i j) refl;
+        zeros = λ i l. get_or-set_other days j i d 0 (λ z. omega arith) ∙ t.zeros i (omega arith);
+      }
+    where
+      here : (i : ℕ) → i < j + 1 → (b : Bool) → eqb i j ≡ b → get_or (set days j d) i 0 ≡ day (record_at prompts i)
+      here i l true b =
+          let s = eqb-true i j b in
+          ap (λ (n : ℕ). get_or (set days j d) n 0) s ∙ get_or-set_same days j d 0 (omega (arith, t.long)) ∙ e
+          ∙ ap (λ (n : ℕ). day (record_at prompts n)) (sym s)
+      here i l false b =
+          let n = eqb-false i j b in
+          get_or-set_other days j i d 0 n ∙ t.noted i (omega arith)
+
   pub days_end : j ≡ min (record_count prompts) most_prompts → DaysListed (records prompts) days
   days_end e = record { long = t.long; each = λ i h. go i h (ltb i j) refl }
     where
@@ -136,6 +153,26 @@ tiers_next {prompts} {listed} {j} s u e h =
         get_or-set_other listed u t true false (λ z. m (sym z)) ∙ s.each t l
         ∙ sym (grown t ∙ ap (λ (x : Bool). any (on_tier t) (cut j prompts) || x) (ne_eqb _ _ (λ z. m (e ∙ z)))
         ∙ or-false (any (on_tier t) (cut j prompts)))
+
+pub tiers_end :
+    {prompts : List ℕ} {listed : List Bool} {j : ℕ} → TiersTo prompts listed j → j ≡ record_count prompts
+    → TiersListed (records prompts) listed
+tiers_end {prompts} {listed} s e =
+    record { long = s.long; each = λ t h. s.each t h ∙ ap (λ (n : ℕ). any (on_tier t) (cut n prompts)) e }
+
+-- ---- a run
+pub run_start : (passes : ℕ → Bool) {k end : ℕ} → k ≤ end → RunTo passes k end k
+run_start passes h = record { low = omega arith; high = h; each = λ j l m. absurd (omega arith) }
+
+pub run_next : (passes : ℕ → Bool) {k end i : ℕ} → RunTo passes k end i → i < end → passes i ≡ true → RunTo passes k end (i + 1)
+run_next passes {k} {end} {i} s h e =
+    record { low = omega (arith, s.low); high = omega arith; each = λ j l m. go j l m (eqb j i) refl }
+  where
+    go : (j : ℕ) → k ≤ j → j < i + 1 → (b : Bool) → eqb j i ≡ b → passes j ≡ true
+    go j l m true b = ap passes (eqb-true j i b) ∙ e
+    go j l m false b =
+        let n = eqb-false j i b in
+        s.each j l (omega arith)
 
 -- ---- a record that passes gets no fault
 and_off : (a : Bool) {b : Bool} → b ≡ false → a && b ≡ false

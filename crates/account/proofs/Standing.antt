@@ -50,6 +50,12 @@ one_record bytes r e l =
     let one : record_count bytes ≡ 1 = sym (length_cut (record_count bytes) bytes) ∙ ap length e in
     sym (take_all record_bytes bytes (omega (arith, l))) ∙ ap (λ (rs : List Record). get_or rs 0 []) (sym (ap (λ (n : ℕ). cut n bytes) one) ∙ e)
 
+-- none past the last
+pub part_past : (account : List Record) (v : ℕ) → rate_part < v → PartOf account v []
+part_past account v h =
+    let e : part_records v account ≡ [] = ap (λ (t : Bool). cond t [] (keep (in_part v) account)) (lt-ltb rate_part v h) in
+    record { are = sym e; whole = sym (ap (λ (rs : List Record). length rs * record_bytes) e) }
+
 module _ (morning noon : List ℕ) (a : Account) (st : Places morning noon a) (v : ℕ) (h : v ≤ rate_part) where
   abbrev account : List Record
   account = account_of morning noon

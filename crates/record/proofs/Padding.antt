@@ -4,16 +4,66 @@ use Prim.Native.Nat.{ℕ, ◌+◌, ◌-◌, ◌*◌, ◌≤◌, ◌<◌}
 use mathlib.Core.Path.{◌≡◌, refl, sym, ap, ◌∙◌}
 use mathlib.Core.Bool.{Bool, true, false, not, ◌&&◌}
 use mathlib.Core.List.{List, [], ◌∷◌, ◌++◌}
-use lib.ListN.{length, drop, length-append, length-drop, get_or-append, replicate, length-replicate, get_or-replicate}
-use lib.Seq.{get_or-append_right, get_or-drop}
+use lib.ListN.{length, get_or, set, drop, length-append, length-drop, length-set, get_or-append, replicate, length-replicate, get_or-replicate}
+use lib.Seq.{get_or-set_same, get_or-set_other, get_or-append_right, get_or-drop}
 use lib.Dec.{eqb, ltb}
 use native.Mathlib.Omega.{arith}
-use borrow.Author.Tests.{ltb-true, ltb-false}
+use borrow.Author.Tests.{ltb-true, ltb-false, eqb-true, eqb-false}
 use Rattle.record.specs.Bytes.{Record, byte_at, one, two, four, Width, Field, plain_at, number_in, record_bytes}
 use Rattle.record.specs.Layout.{fields_of}
 use Rattle.record.specs.Ranges.{beyond, outside_among, named, unused_byte, field_outside}
 use Rattle.record.proofs.Reading.{byte_past}
 use Rattle.record.proofs.Tests.{both, any_same}
+
+-- ---- on the way: i bytes are copied, and zeros stand after them
+pub record Padding (r whole : List ℕ) (i : ℕ) : Type 0 where
+  pub long : length whole ≡ record_bytes
+  pub inside : i ≤ length r
+  pub copied : (o : ℕ) → o < i → byte_at whole o ≡ byte_at r o
+  pub zeros : (o : ℕ) → i ≤ o → byte_at whole o ≡ 0
+
+pub padding_start : (r : List ℕ) → Padding r (replicate record_bytes 0) 0
+padding_start r =
+    record {
+      long = length-replicate {A = ℕ} record_bytes 0;
+      inside = omega arith;
+      copied = λ o h. absurd (omega arith);
+      zeros = λ o h. go o (ltb o record_bytes) refl;
+    }
+  where
+    go : (o : ℕ) (t : Bool) → ltb o record_bytes ≡ t → byte_at (replicate record_bytes 0) o ≡ 0
+    go o true e = get_or-replicate {A = ℕ} record_bytes o 0 0 (ltb-true o record_bytes e)
+    go o false e =
+        let l : length (replicate {A = ℕ} record_bytes 0) ≤ o = omega (arith, ltb-false o record_bytes e, length-replicate {A = ℕ} record_bytes 0) in
+        byte_past (replicate record_bytes 0) o l
+
+module _ {r whole : List ℕ} {i : ℕ} (p : Padding r whole i) where
+  pub padding_next : i < length r → i < record_bytes → Padding r (set whole i (get_or r i 0)) (i + 1)
+  padding_next h g =
+      record {
+        long = length-set whole i (get_or r i 0) ∙ p.long;
+        inside = omega arith;
+        copied = λ o l. here o l (eqb o i) refl;
+        zeros = λ o l. get_or-set_other whole i o (get_or r i 0) 0 (λ e. omega arith) ∙ p.zeros o (omega arith);
+      }
+    where
+      here : (o : ℕ) → o < i + 1 → (t : Bool) → eqb o i ≡ t → byte_at (set whole i (get_or r i 0)) o ≡ byte_at r o
+      here o l true e =
+          let s = eqb-true o i e in
+          ap (byte_at (set whole i (get_or r i 0))) s
+          ∙ get_or-set_same whole i (get_or r i 0) 0 (omega (arith, p.long)) ∙ ap (byte_at r) (sym s)
+      here o l false e =
+          let d = eqb-false o i e in
+          get_or-set_other whole i o (get_or r i 0) 0 d ∙ p.copied o (omega arith)
+
+  pub padding_ends : length r ≤ i → (o : ℕ) → byte_at whole o ≡ byte_at r o
+  padding_ends h o = go (ltb o i) refl
+    where
+      go : (t : Bool) → ltb o i ≡ t → byte_at whole o ≡ byte_at r o
+      go true e = p.copied o (ltb-true o i e)
+      go false e =
+          let l = ltb-false o i e in
+          p.zeros o l ∙ sym (byte_past r o (omega arith))
 
 -- ---- the bytes, and zeros
 zero_at : (o : ℕ) → byte_at (replicate record_bytes 0) o ≡ 0

@@ -1,12 +1,13 @@
--- A test of every element; and the prompts as the list of their tiers and net deltas.
+-- A test of every element, one element after the other or of all at once; and the prompts as the list of their tiers and net deltas.
 -- Assumes nothing.
-use Prim.Native.Nat.{ℕ, zero, suc, ◌≤◌, ◌<◌}
+use Prim.Native.Nat.{ℕ, zero, suc, ◌+◌, ◌≤◌, ◌<◌}
+use native.Mathlib.Numerals.{add-one}
 use native.Mathlib.Omega.{arith}
-use mathlib.Core.Bool.{Bool, true, false}
+use mathlib.Core.Bool.{Bool, true, false, ◌&&◌, and-true}
 use mathlib.Core.List.{List, [], ◌∷◌}
 use mathlib.Core.Path.{◌≡◌, refl, sym, ◌∙◌, ap}
-use lib.ListN.{length, get_or}
-use lib.Seq.{get_or-take, length-take-le}
+use lib.ListN.{length, get_or, drop, drop_of_length-le}
+use lib.Seq.{drop-cons, get_or-take, length-take-le}
 use Rattle.std.specs.Prelude.{◌↔◌, IsTrue}
 use Rattle.std.specs.List.{All}
 use Rattle.spread.specs.Accepted.{every, opens_from, open_of, prompt_places}
@@ -15,7 +16,28 @@ use Rattle.spread.specs.declared.Delta.{Delta}
 use Rattle.spread.specs.declared.Prompts.{Prompts}
 use Rattle.spread.proofs.Both.{and_left, and_right}
 
+pub and_assoc : (a b c : Bool) → a && (b && c) ≡ (a && b) && c
+and_assoc true b c = refl
+and_assoc false b c = refl
+
 module _ {ℓ} {A : Type ℓ} where
+  -- tested so far, and still to test
+  abbrev pub Tested : (A → Bool) → List A → ℕ → Bool → Type 0
+  Tested p l i so_far = every p l ≡ so_far && every p (drop i l)
+
+  pub tested_next : (p : A → Bool) (l : List A) (i : ℕ) (d : A) (so_far one : Bool) → i < length l → Tested p l i so_far → one ≡ p (get_or l i d)
+      → Tested p l (i + 1) (so_far && one)
+  tested_next p l i d so_far one h e f =
+      e
+      ∙ ap (λ (k : List A). so_far && every p k) (drop-cons l i d h)
+      ∙ ap (λ (b : Bool). so_far && (b && every p (drop (suc i) l))) (sym f)
+      ∙ and_assoc so_far one (every p (drop (suc i) l))
+      ∙ ap (λ (n : ℕ). (so_far && one) && every p (drop n l)) (sym (add-one i))
+
+  pub tested_end : (p : A → Bool) (l : List A) (i : ℕ) (so_far : Bool) → length l ≤ i → Tested p l i so_far → so_far ≡ every p l
+  tested_end p l i so_far h e =
+      sym (e ∙ ap (λ (k : List A). so_far && every p k) (drop_of_length-le l h) ∙ and-true so_far)
+
   pub every_at : (p : A → Bool) (l : List A) (i : ℕ) (d : A) → every p l ≡ true → i < length l → p (get_or l i d) ≡ true
   every_at p [] i d e h = absurd (omega arith)
   every_at p (x ∷ l) zero d e h = and_left (p x) (every p l) e

@@ -1,7 +1,7 @@
 -- Tickets in turn, and what is told of a file with its tickets.
 -- Assumes nothing.
 use Rattle.std.specs.Prelude.{Result, Ok, Err}
-use Prim.Native.Nat.{ℕ, ◌+◌, ◌-◌, ◌*◌, ◌/◌, ◌≤◌, ◌<◌}
+use Prim.Native.Nat.{ℕ, ◌+◌, ◌-◌, ◌*◌, ◌/◌, ◌%◌, ◌≤◌, ◌<◌}
 use mathlib.Core.Path.{◌≡◌, refl, sym, ap, ap₂, ◌∙◌, subst, subst⁻¹}
 use mathlib.Core.Bool.{Bool, true, false, cond}
 use mathlib.Core.List.{List}
@@ -32,6 +32,13 @@ use Rattle.tickets.specs.declared.ask.Ticketed.{Ticketed}
 use Rattle.tickets.specs.declared.kept.Kept.{Kept}
 use Rattle.tickets.proofs.CountLaws.{small}
 use Rattle.tickets.proofs.Taken.{tickets_last}
+
+-- ---- how many tickets
+pub whole-count : (bytes : List ℕ) → length bytes % record_bytes ≡ 0 → length bytes / record_bytes ≡ length (tickets_in bytes)
+whole-count bytes z = omega (arith, length_cut ((length bytes + 95) / record_bytes) bytes)
+
+pub part_count : (bytes : List ℕ) → (length bytes % record_bytes ≡ 0 → ⊥) → length bytes / record_bytes + 1 ≡ length (tickets_in bytes)
+part_count bytes nz = omega (arith, nz, length_cut ((length bytes + 95) / record_bytes) bytes)
 
 -- ---- accepted or refused
 module _ {A : Type 0} (a : Answer) (x y : A) where

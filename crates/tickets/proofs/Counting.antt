@@ -263,3 +263,9 @@ module _ (a b c e : Bool) where
 
   pub four_7 : a ≡ false → b ≡ false → c ≡ true → 7 ≡ four
   four_7 ha hb hc = rw (ha, hb, hc)
+
+  pub four_9 : a ≡ false → b ≡ false → c ≡ false → e ≡ true → 9 ≡ four
+  four_9 ha hb hc he = rw (ha, hb, hc, he)
+
+  pub four_0 : a ≡ false → b ≡ false → c ≡ false → e ≡ false → ◌≡◌ {A = ℕ} 0 four
+  four_0 ha hb hc he = rw (ha, hb, hc, he)

@@ -6,9 +6,10 @@ use mathlib.Core.Path.{◌≡◌, refl, sym, ap, subst, subst⁻¹, ◌∙◌}
 use mathlib.Core.Bool.{Bool, true, false, not, cond}
 use mathlib.Core.List.{List, [], ◌∷◌, ◌++◌, map, append_assoc, map-append}
 use lib.Dec.{eqb, leb, ltb}
-use lib.ListN.{length, get_or, take, drop, length-append, length-drop, length-map}
-use lib.Seq.{length-take-le, take-add, take_at, drop_at, get_or-take, drop-drop}
+use lib.ListN.{length, get_or, take, drop, set, length-append, length-drop, length-map}
+use lib.Seq.{length-take-le, take-add, take-suc, take_at, drop_at, set_at, drop-cons, get_or-take, drop-drop}
 use native.Mathlib.Omega.{arith}
+use native.Mathlib.Numerals.{add-one}
 use borrow.Author.Tests.{eqb-true, not-false, ltb-false}
 use Rattle.exact.proofs.Lists.{get_d_map}
 use Rattle.record.specs.Bytes.{count_from, record_bytes}
@@ -62,7 +63,17 @@ pub counted_all : (b n k : ℕ) → n + k ≤ b → All (λ (j : ℕ). j < b) (c
 counted_all b n zero h = tt
 counted_all b n (suc k) h = (omega arith, counted_all b (n + 1) k (omega arith))
 
--- ---- numbers counted up
+-- ---- copies, and numbers counted up
+pub copy_next :
+    (source to : List ℕ) (i : ℕ) → i < length to → i < length source
+    → set (take i source ++ drop i to) i (get_or source i 0) ≡ take (i + 1) source ++ drop (i + 1) to
+copy_next source to i h l =
+    ap (λ (ys : List ℕ). set (take i source ++ ys) i (get_or source i 0)) (drop-cons to i 0 h)
+    ∙ set_at (take i source) (get_or to i 0) (drop (suc i) to) (get_or source i 0) i (length-take-le i source (omega arith))
+    ∙ sym (ap (λ (n : ℕ). take n source ++ drop n to) (add-one i)
+    ∙ ap (λ (xs : List ℕ). xs ++ drop (suc i) to) (take-suc source i 0 l)
+    ∙ append_assoc (take i source) (get_or source i 0 ∷ []) (drop (suc i) to))
+
 pub count_more : (n k : ℕ) → count_from n (suc k) ≡ count_from n k ++ (n + k) ∷ []
 count_more n zero =
     let e : n + 0 ≡ n = omega arith in
@@ -74,6 +85,16 @@ count_more n (suc k) =
 pub length-count : (n k : ℕ) → length (count_from n k) ≡ k
 length-count n zero = refl
 length-count n (suc k) = ap suc (length-count (n + 1) k)
+
+pub count_next :
+    (to : List ℕ) (i : ℕ) → i < length to → set (count_from 0 i ++ drop i to) i i ≡ count_from 0 (i + 1) ++ drop (i + 1) to
+count_next to i h =
+    let e : 0 + i ≡ i = omega arith in
+    ap (λ (ys : List ℕ). set (count_from 0 i ++ ys) i i) (drop-cons to i 0 h)
+    ∙ set_at (count_from 0 i) (get_or to i 0) (drop (suc i) to) i i (length-count 0 i)
+    ∙ sym (ap (λ (n : ℕ). count_from 0 n ++ drop n to) (add-one i)
+    ∙ ap (λ (xs : List ℕ). xs ++ drop (suc i) to) (count_more 0 i ∙ ap (λ (x : ℕ). count_from 0 i ++ x ∷ []) e)
+    ∙ append_assoc (count_from 0 i) (i ∷ []) (drop (suc i) to))
 
 -- ---- the places
 pub places_all : (entries : List ℕ) → All (λ (j : ℕ). j < record_count entries) (places entries)
@@ -208,6 +229,9 @@ pub record Filling (entries : List ℕ) (k n : ℕ) (out₀ out : List ℕ) (i :
   pub inside : i ≤ n
   pub done : out ≡ filled_in entries k i out₀
 
+pub filling_start : (entries : List ℕ) (k n : ℕ) (out : List ℕ) → Filling entries k n out out 0
+filling_start entries k n out = record { long = refl; inside = omega arith; done = refl }
+
 module _ (entries : List ℕ) (k n : ℕ) (out₀ out : List ℕ) (i : ℕ) (f : Filling entries k n out₀ out i) (more : i < n)
     (within : k + n ≤ record_count entries) (room : n * record_bytes ≤ length out₀) where
   abbrev W : List ℕ
@@ -254,6 +278,12 @@ module _ (entries : List ℕ) (k n : ℕ) (out₀ out : List ℕ) (i : ℕ) (f :
         inside = omega arith;
         done = is;
       }
+
+pub filling_ends :
+    (entries : List ℕ) (k n : ℕ) (out₀ out : List ℕ) (i : ℕ) → Filling entries k n out₀ out i → n ≤ i → out ≡ filled_in entries k n out₀
+filling_ends entries k n out₀ out i f past =
+    let e : i ≡ n = omega (arith, f.inside) in
+    f.done ∙ ap (λ (m : ℕ). filled_in entries k m out₀) e
 
 -- what is put at the front is there
 pub front_filled :

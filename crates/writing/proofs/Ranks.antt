@@ -1,19 +1,20 @@
 -- What an entry goes by, and the keys of all.
 -- Assumes nothing.
 use Prim.Native.Nat.{ℕ, zero, suc, ◌+◌, ◌*◌, ◌≤◌, ◌<◌}
-use mathlib.Core.Path.{◌≡◌, refl, ap, ap₂, ◌∙◌}
+use mathlib.Core.Path.{◌≡◌, refl, sym, ap, ap₂, ◌∙◌}
 use mathlib.Core.Bool.{Bool, true, false, cond}
 use mathlib.Core.List.{List, [], ◌∷◌, ◌++◌}
 use lib.Dec.{eqb, leb}
-use lib.ListN.{length, take, drop, length-append, length-drop}
-use lib.Seq.{length-take-le, take_at}
+use lib.ListN.{length, get_or, take, drop, set, replicate, length-append, length-drop, length-set, length-replicate}
+use lib.Seq.{get_or-set_same, get_or-set_other, length-take-le, take_at}
+use native.Mathlib.Decide.{ℕ_discrete}
 use native.Mathlib.Omega.{arith}
 use borrow.Author.Tests.{ne_eqb}
 use Rattle.account.specs.Check.{most_records}
 use Rattle.record.specs.Bytes.{count_from}
 use Rattle.record.specs.Layout.{Record, kind, contract, day}
-use Rattle.account.specs.Records.{record_count}
-use Rattle.writing.specs.Order.{of_its_kind, rank_at, places, Keyed, Ordered}
+use Rattle.account.specs.Records.{record_at, record_count}
+use Rattle.writing.specs.Order.{of_its_kind, rank, rank_at, places, Keyed, Ordered}
 use Rattle.writing.specs.code.Sorting.{key_at}
 use Rattle.writing.specs.Sorting.{put_in, sorted}
 use Rattle.writing.proofs.Placed.{All, all_sorted, all_weaker, counted_all, places_long}
@@ -38,6 +39,35 @@ pub of_other : (r : Record) → (kind r ≡ 2 → ⊥) → (kind r ≡ 5 → ⊥
 of_other r h g =
     any_other (contract r) (contract r * 4294967296 + day r) 0 (eqb (kind r) 1) (eqb (kind r) 2) (eqb (kind r) 3)
     (eqb (kind r) 4) (eqb (kind r) 5) (eqb (kind r) 6) (ne_eqb (kind r) 2 h) (ne_eqb (kind r) 5 g)
+
+-- ---- the keys, one after the other
+pub record Keying (entries keys : List ℕ) (k : ℕ) : Type 0 where
+  pub long : length keys ≡ most_records
+  pub inside : k ≤ record_count entries
+  pub done : (i : ℕ) → i < k → get_or keys i 0 ≡ rank_at entries i
+
+pub keying_start : (entries : List ℕ) → Keying entries (replicate most_records 0) 0
+keying_start entries =
+    record { long = length-replicate {A = ℕ} most_records 0; inside = omega arith; done = λ i h. absurd (omega arith) }
+
+pub keying_next :
+    {entries keys : List ℕ} {k : ℕ} → Keying entries keys k → record_count entries ≤ most_records → {r : Record} {x : ℕ}
+    → k < record_count entries → r ≡ record_at entries k → x ≡ rank r → Keying entries (set keys k x) (k + 1)
+keying_next {entries} {keys} {k} s room {r} {x} more hr hx =
+    record {
+      long = length-set keys k x ∙ s.long;
+      inside = omega arith;
+      done = λ i h. here i h (ℕ_discrete i k);
+    }
+  where
+    here : (i : ℕ) → i < k + 1 → Dec (i ≡ k) → get_or (set keys k x) i 0 ≡ rank_at entries i
+    here i h (yes e) =
+        ap (λ (j : ℕ). get_or (set keys k x) j 0) e ∙ get_or-set_same keys k x 0 (omega (arith, s.long)) ∙ hx ∙ ap rank hr
+        ∙ ap (rank_at entries) (sym e)
+    here i h (no e) = get_or-set_other keys k i x 0 e ∙ s.done i (omega (arith, e))
+
+pub keying_ends : {entries keys : List ℕ} {k : ℕ} → Keying entries keys k → record_count entries ≤ k → Keyed entries keys
+keying_ends {entries} {keys} {k} s past = record { long = s.long; each = λ i h. s.done i (omega arith) }
 
 -- ---- the order
 module _ (f g : ℕ → ℕ) where

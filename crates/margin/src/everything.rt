@@ -637,7 +637,7 @@ fn lent_answers(
 }
 
 // Everything of an account, and what it is answered.
-pub fn everything_lent<'a>(
+fn everything_lent<'a>(
     morning: &'a [u8],
     noon: &'a [u8],
     account: &[u16; NOTES],

@@ -8,9 +8,8 @@ ghost use Rattle.questions.specs.Questions.{answer_to, after_to, need_to};
 use crate::checked::{answer_checked, needed_checked};
 use account::accounts::{Account, check_file, nothing_of};
 use account::answers::Refusal;
-use account::lent::{NOTES, lend_file};
 use margin::asking::Question;
-use margin::everything::{Everything, everything_lent, everything_over};
+use margin::everything::{Everything, everything_over};
 
 // A view of a file's bytes with what the check says of them. Only `hold` makes one: its fields are of this module
 // alone.
@@ -61,18 +60,25 @@ fn refused(refusal: Refusal) -> Asked
 // Everything that a checked file is asked for, its positions worked out once.
 fn everything(
     file: &[u8],
-    checked: Result<Account, Refusal>,
+    checked: &Result<Account, Refusal>,
     figures: &mut [i64],
     books: &mut [i64],
     uses: &mut [i64],
 ) -> Asked
-    requires { CheckedBy file.now checked }
+    requires { CheckedBy file.now checked.now }
     ensures { AllAnswered file.now figures.old books.old uses.old result figures.new
         books.new uses.new }
 {
     match checked {
-        Ok(account) => told(everything_over(file, nothing_of(file), account, figures, books, uses)),
-        Err(refusal) => refused(refusal),
+        Ok(account) => told(everything_over(
+            file,
+            nothing_of(file),
+            *account,
+            figures,
+            books,
+            uses,
+        )),
+        Err(refusal) => refused(*refusal),
     }
 }
 
@@ -99,17 +105,13 @@ pub fn held_all<'a>(h: Held<'a>, figures: &mut [i64], books: &mut [i64], uses: &
     ensures { AllAnswered h.entry.file.now figures.old books.old uses.old result figures.new
         books.new uses.new }
 {
-    everything(h.file, h.checked, figures, books, uses)
+    everything(h.file, &h.checked, figures, books, uses)
 }
 
-// The figures, and the books and uses of all questions, over plain bytes, of a file that is checked once.
+// The figures, and the books and uses of all questions, over plain bytes, of a file that is checked and held once.
 pub fn ask_all(file: &[u8], figures: &mut [i64], books: &mut [i64], uses: &mut [i64]) -> Asked
     ensures { AllAnswered file.now figures.old books.old uses.old result figures.new
         books.new uses.new }
 {
-    let mut notes = [0u16; NOTES];
-    match lend_file(file, &mut notes) {
-        Ok(()) => told(everything_lent(file, nothing_of(file), &notes, figures, books, uses)),
-        Err(refusal) => refused(refusal),
-    }
+    held_all(hold(file), figures, books, uses)
 }
